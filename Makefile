@@ -1,0 +1,60 @@
+# make demo   builds the library and shows a result
+# make test   compares with the Rust, tests the C boundary, and proves everything; its last line is the prover's count
+.DELETE_ON_ERROR:
+.PHONY: demo test setup layout unchanged header oracle archive prove
+
+CASES ?= 1000000
+HARNESS := build/oracle/release/harness
+
+demo: build/archive/libbridgeyarn.a
+	tools/x86-64-cc build/demo/cases demo/cases.c
+	tools/x86-64-run build/demo/cases
+
+test: layout unchanged header oracle archive prove
+
+setup:
+	tools/setup cc c++ cargo
+
+layout: setup
+	tools/layout
+
+# the published files of the Rust are as they were published
+unchanged: setup
+	cd oracle/isosurface && sha256sum --quiet -c ../isosurface.sha256
+	@echo "oracle: the files of isosurface 0.0.4 are unchanged"
+
+# the header compiles alone, as C99 and as C++
+header: setup
+	cc -std=c99 -Wall -Wextra -Werror -pedantic -fsyntax-only -x c include/bridgeyarn.h
+	c++ -Wall -Wextra -Werror -pedantic -fsyntax-only -x c++ include/bridgeyarn.h
+
+# the library for this machine, call by call beside the unchanged Rust
+oracle: $(HARNESS)
+	$(HARNESS) compare $(CASES)
+
+# the archive that users link, on requests and answers that the Rust side wrote
+archive: build/archive/libbridgeyarn.a $(HARNESS)
+	$(HARNESS) replay build/archive/requests 100000
+	tools/x86-64-cc build/archive/replay oracle/archive/replay.c
+	tools/x86-64-run build/archive/replay build/archive/requests
+
+# from nothing: every crate, every must-fail edit, every program; nothing may come after it
+prove: setup
+	rt ci
+
+SOURCES := crates.txt $(shell find crates -name '*.rt' -o -name '*.antt')
+
+build/archive/libbridgeyarn.a: $(SOURCES) | setup
+	@echo "proving bridgeyarn and what it rests on, and compiling it for x86-64"
+	rt staticlib bridgeyarn
+	mkdir -p build/archive
+	cp target/staticlib/libbridgeyarn.a $@
+
+build/native/libbridgeyarn.a: $(SOURCES) tools/native-lib | setup
+	@echo "proving bridgeyarn and what it rests on, and compiling it for $$(uname -m)"
+	tools/native-lib bridgeyarn $@
+
+$(HARNESS): build/native/libbridgeyarn.a $(shell find oracle -name '*.rs' -o -name '*.toml') | setup
+	cd oracle/isosurface && RUSTFLAGS=-Awarnings CARGO_TARGET_DIR=$(CURDIR)/build/isosurface cargo build --release --offline --quiet
+	cd oracle/harness && BRIDGEYARN_LIB=$(CURDIR)/build/native CARGO_TARGET_DIR=$(CURDIR)/build/oracle cargo build --release --offline --quiet
+	touch $@

@@ -1,0 +1,4 @@
+pub mod Signs
+pub mod Row
+pub mod Limit
+mod Cases

@@ -1,0 +1,69 @@
+/* Replays the requests that the Rust side wrote (oracle/harness/src/replay.rs) through the archive that users link, and compares every
+ * byte of every answer. Usage: replay FILE. */
+#include "bridgeyarn.h"
+#include <stdio.h>
+#include <stdlib.h>
+#include <string.h>
+
+enum { CELL = 1, EDGE = 2 };
+
+static FILE *in;
+static unsigned long replayed;
+
+static void fail(const char *what)
+{
+    printf("replay: DIFFERS at request %lu: %s\n", replayed, what);
+    exit(1);
+}
+
+static void get(void *to, size_t bytes)
+{
+    if (fread(to, 1, bytes, in) != bytes)
+        fail("the file ends inside a request");
+}
+
+static void hold(const char *what, const void *ours, size_t bytes)
+{
+    unsigned char expected[64];
+    get(expected, bytes);
+    if (memcmp(ours, expected, bytes) != 0)
+        fail(what);
+}
+
+static void replay_cell(void)
+{
+    float values[8];
+    bridgeyarn_cell_answer answer;
+    get(values, sizeof values);
+    answer = bridgeyarn_cell(values);
+    hold("bridgeyarn_cell", &answer, sizeof answer);
+}
+
+static void replay_edge(void)
+{
+    float ends[2];
+    bridgeyarn_edge_answer answer;
+    get(ends, sizeof ends);
+    answer = bridgeyarn_edge(ends[0], ends[1]);
+    hold("bridgeyarn_edge", &answer, sizeof answer);
+}
+
+int main(int count, char **words)
+{
+    uint32_t call;
+    in = count == 2 ? fopen(words[1], "rb") : NULL;
+    if (in == NULL) {
+        fprintf(stderr, "usage: replay FILE\n");
+        return 2;
+    }
+    while (fread(&call, sizeof call, 1, in) == 1) {
+        switch (call) {
+        case CELL: replay_cell(); break;
+        case EDGE: replay_edge(); break;
+        default: fail("no such call");
+        }
+        replayed++;
+    }
+    printf("replay: %lu requests through the archive, no difference\n", replayed);
+    return replayed == 0;
+}
