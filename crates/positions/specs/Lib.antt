@@ -1,0 +1,2 @@
+pub mod Position
+pub mod Crossing
