@@ -5,7 +5,7 @@
 #include <stdlib.h>
 #include <string.h>
 
-enum { CELL = 1, EDGE = 2 };
+enum { CELL = 1, EDGE = 2, KEY = 3 };
 
 static FILE *in;
 static unsigned long replayed;
@@ -48,6 +48,34 @@ static void replay_edge(void)
     hold("bridgeyarn_edge", &answer, sizeof answer);
 }
 
+static void hold_key(const char *what, bridgeyarn_key_answer answer)
+{
+    hold(what, &answer.cause, sizeof answer.cause);
+    hold(what, &answer.value, sizeof answer.value);
+}
+
+static void replay_key(void)
+{
+    uint64_t key, other, word;
+    uint32_t cause;
+    float center[3] = {0.5f, -0.5f, 0.25f};
+    bridgeyarn_half_size_answer half;
+    get(&key, sizeof key);
+    get(&other, sizeof other);
+    hold_key("bridgeyarn_morton_level", bridgeyarn_morton_level(key));
+    hold_key("bridgeyarn_morton_parent", bridgeyarn_morton_parent(key));
+    hold_key("bridgeyarn_morton_child", bridgeyarn_morton_child(key, (uint32_t)other % 10));
+    half = bridgeyarn_morton_half_size(key);
+    hold("bridgeyarn_morton_half_size", &half, sizeof half);
+    cause = bridgeyarn_morton_center(key, center);
+    hold("bridgeyarn_morton_center", &cause, sizeof cause);
+    hold("bridgeyarn_morton_center", center, sizeof center);
+    word = bridgeyarn_morton_sum(key, other);
+    hold("bridgeyarn_morton_sum", &word, sizeof word);
+    word = bridgeyarn_morton_difference(key, other);
+    hold("bridgeyarn_morton_difference", &word, sizeof word);
+}
+
 int main(int count, char **words)
 {
     uint32_t call;
@@ -60,6 +88,7 @@ int main(int count, char **words)
         switch (call) {
         case CELL: replay_cell(); break;
         case EDGE: replay_edge(); break;
+        case KEY: replay_key(); break;
         default: fail("no such call");
         }
         replayed++;

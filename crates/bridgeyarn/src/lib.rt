@@ -2,3 +2,4 @@
 // include/bridgeyarn.h declares them, and nothing else. Each takes any arguments and answers.
 pub mod cell;
 pub mod edge;
+pub mod key;

@@ -1,12 +1,14 @@
 //! Requests and the answers that they must get, for `oracle/archive/replay.c`, which replays them through the archive that users
 //! link. A record is its call's number as a little-endian u32, the arguments, then the answer: little-endian words, no gaps.
 use crate::cell;
+use crate::morton;
 use crate::random::Random;
 use std::fs::File;
 use std::io::{BufWriter, Result, Write};
 
 const CELL: u32 = 1;
 const EDGE: u32 = 2;
+const KEY: u32 = 3;
 
 struct Replay(BufWriter<File>);
 
@@ -44,9 +46,24 @@ fn edges(out: &mut Replay, count: u64) -> Result<()> {
     Ok(())
 }
 
+fn keys(out: &mut Replay, count: u64) -> Result<()> {
+    let mut random = Random::new(13);
+    for _ in 0..count {
+        // keys of all lengths, good and bad
+        let key = random.next() >> random.below(64);
+        let other = random.next();
+        out.call(KEY)?;
+        out.0.write_all(&key.to_le_bytes())?;
+        out.0.write_all(&other.to_le_bytes())?;
+        out.0.write_all(&morton::answers(key, other))?;
+    }
+    Ok(())
+}
+
 pub fn write(path: &str, count: u64) -> Result<()> {
     let mut out = Replay(BufWriter::new(File::create(path)?));
     cells(&mut out, count)?;
     edges(&mut out, count)?;
+    keys(&mut out, count)?;
     out.0.flush()
 }
