@@ -1,0 +1,5 @@
+pub mod Walk
+pub mod Edges
+pub mod Cache
+pub mod Numbering
+pub mod Ownership
