@@ -1,0 +1,137 @@
+// The sample record of document 01, "Record and listing": five little-endian u32, then the samples.
+// The bytes are only read. A size is tested against the limit before any product is made of it, so
+// that no bytes make one overflow.
+pub mod samples;
+
+ghost use mathlib.Core.Path.{_≡_};
+ghost use Prim.Native.Nat.{_+_, _<_, _≤_};
+ghost use lib.ListN.{length};
+ghost use Rattle.sample_record.specs.Words.{word, wordAt};
+ghost use Rattle.sample_record.specs.Record.{sampleCount, recordOf, causeOf, placeOf, sizeOf, numberingOf};
+
+// What a record answers: what it holds, or the first of the refusals in document 01's order. A
+// malformed one says at which byte.
+pub enum Record {
+    Holds { size: u32, numbering: u32 },
+    Malformed(usize),
+    BadSize,
+    BadNumbering,
+    BadCount,
+}
+
+// The u32 of four bytes, the lowest first.
+pub(crate) fn word(a: u8, b: u8, c: u8, d: u8) -> u32
+    ensures { λ r. ⌜ r ≡ word a b c d ⌝ }
+{
+    a as u32 + 256 * (b as u32 + 256 * (c as u32 + 256 * (d as u32)))
+}
+
+// The u32 that begins at a byte place.
+pub(crate) fn word_at(bytes: &[u8], at: usize) -> u32
+    requires { ⌜ at + 4 ≤ length (now bytes) ⌝ }
+    ensures { λ r. ⌜ r ≡ wordAt (now (bytes .entry)) at ⌝ }
+{
+    word(bytes[at], bytes[at + 1], bytes[at + 2], bytes[at + 3])
+}
+
+// The samples of a grid of this size.
+fn sample_count(size: u32) -> u64
+    requires { ⌜ size < 65536 ⌝ }
+    ensures { λ r. ⌜ r ≡ sampleCount size ⌝ }
+{
+    let n = size as u64;
+    n * n * (n + 1)
+}
+
+// The answer about a record whose size may be 2 to `limit`: 128 for the library, 7 for the listing
+// program. The limit is a u16, so that no number of samples passes 2^48.
+pub fn record_in(bytes: &[u8], limit: u16) -> Record
+    ensures { λ r. ⌜ r ≡ recordOf limit (now (bytes .entry)) ⌝ }
+{
+    if bytes.len() < 20 {
+        return Record::Malformed(bytes.len());
+    }
+    if word_at(bytes, 0) != 1 {
+        return Record::Malformed(0);
+    }
+    let size = word_at(bytes, 4);
+    if size < 2 {
+        return Record::BadSize;
+    }
+    if size > limit as u32 {
+        return Record::BadSize;
+    }
+    let numbering = word_at(bytes, 8);
+    if numbering > 1 {
+        return Record::BadNumbering;
+    }
+    let count = word_at(bytes, 12) as u64;
+    if count != sample_count(size) {
+        return Record::BadCount;
+    }
+    if word_at(bytes, 16) != 20 {
+        return Record::Malformed(16);
+    }
+    if bytes.len() as u64 != 20 + 4 * count {
+        return Record::Malformed(20);
+    }
+    Record::Holds { size, numbering }
+}
+
+// Document 01's number of an answer's cause: 0 where the record holds a grid.
+pub fn cause(answer: Record) -> u32
+    ensures { λ r. ⌜ r ≡ causeOf answer ⌝ }
+{
+    match answer {
+        Record::Holds {
+            size: _,
+            numbering: _,
+        } => 0,
+        Record::Malformed(_) => 8,
+        Record::BadSize => 1,
+        Record::BadNumbering => 2,
+        Record::BadCount => 3,
+    }
+}
+
+// The byte place of a malformed record, else 0.
+pub fn place(answer: Record) -> usize
+    ensures { λ r. ⌜ r ≡ placeOf answer ⌝ }
+{
+    match answer {
+        Record::Holds {
+            size: _,
+            numbering: _,
+        } => 0,
+        Record::Malformed(at) => at,
+        Record::BadSize => 0,
+        Record::BadNumbering => 0,
+        Record::BadCount => 0,
+    }
+}
+
+// The size of the grid, 0 where refused.
+pub fn size(answer: Record) -> u32
+    ensures { λ r. ⌜ r ≡ sizeOf answer ⌝ }
+{
+    match answer {
+        Record::Holds { size, numbering: _ } => size,
+        Record::Malformed(_) => 0,
+        Record::BadSize => 0,
+        Record::BadNumbering => 0,
+        Record::BadCount => 0,
+    }
+}
+
+// The numbering word, 0 where refused.
+pub fn numbering(answer: Record) -> u32
+    ensures { λ r. ⌜ r ≡ numberingOf answer ⌝ }
+{
+    match answer {
+        Record::Holds { size: _, numbering } => numbering,
+        Record::Malformed(_) => 0,
+        Record::BadSize => 0,
+        Record::BadNumbering => 0,
+        Record::BadCount => 0,
+    }
+}
