@@ -15,10 +15,45 @@
 extern "C" {
 #endif
 
-/* Causes, in the order in which they are tried. */
-#define BRIDGEYARN_DONE 0u           /* done                                             */
-#define BRIDGEYARN_BAD_SAMPLE 5u     /* a sample not finite, or of magnitude over 2^126  */
-#define BRIDGEYARN_BAD_KEY 9u        /* a bad Morton key or child                        */
+/* Causes. The extraction tries 1 to 7 in this order, and gives each exactly where its condition holds and no earlier one does. */
+#define BRIDGEYARN_DONE 0u            /* done                                             */
+#define BRIDGEYARN_BAD_SIZE 1u        /* size under 2 or over 128                         */
+#define BRIDGEYARN_BAD_NUMBERING 2u   /* numbering word not 0 or 1                        */
+#define BRIDGEYARN_BAD_COUNT 3u       /* sample count not n * n * (n + 1)                 */
+#define BRIDGEYARN_SHORT_WORK 4u      /* working memory under 8 * n * n + 6 * n words     */
+#define BRIDGEYARN_BAD_SAMPLE 5u      /* a sample not finite, or of magnitude over 2^126  */
+#define BRIDGEYARN_SHORT_VERTICES 6u  /* vertex buffer under 3 * V floats                 */
+#define BRIDGEYARN_SHORT_INDICES 7u   /* index buffer under I words                       */
+#define BRIDGEYARN_BAD_RECORD 8u      /* record malformed                                 */
+#define BRIDGEYARN_BAD_KEY 9u         /* a bad Morton key or child                        */
+
+/* ---- the extraction */
+
+#define BRIDGEYARN_CRATE 0u   /* numbering: as isosurface 0.0.4 gives it, bit for bit                */
+#define BRIDGEYARN_JOINED 1u  /* numbering: one vertex for each grid edge whose ends differ in sign  */
+
+typedef struct {
+    uint32_t cause;
+    uint64_t place;     /* cause 5: the lowest bad place     */
+    uint64_t vertices;  /* causes 0, 6 and 7: V              */
+    uint64_t indices;   /* causes 0, 6 and 7: I              */
+} bridgeyarn_answer;
+
+/* The surface of a grid of size n = 2 to 128. Sample (x, y, z) stands at place (z * n + y) * n + x; there are n + 1 sample layers, so z reaches
+ * n / (n - 1). A sample that is <= 0.0 is inside. A call with no room answers 6 or 7 with the V and I to make room for, or 0 where the mesh is
+ * empty.
+ *
+ * After 0       the first 3 * V floats of vertices and I words of indices hold the mesh; the rest of both is unchanged.
+ * After 6, 7    both are unchanged.
+ * After 0, 6, 7 the first 8 * n * n + 6 * n words of work are 0, whatever they held; the rest is unchanged.
+ * After 1 to 5  nothing lent has changed.
+ * Definition: outcome, crates/marching_cubes/specs/Outcome.antt. The proof tells NaN from other floats and not one NaN from another; what is said
+ * to be unchanged is not written, so its bits stay too. */
+bridgeyarn_answer bridgeyarn_extract(uint32_t size, uint32_t numbering,
+    const float *samples, size_t sample_count,
+    uint32_t *work, size_t work_count,
+    float *vertices, size_t vertex_room,    /* room in floats */
+    uint32_t *indices, size_t index_room);
 
 /* ---- one cell */
 
@@ -48,6 +83,24 @@ typedef struct {
  * is a crossing exactly where one of the two is <= 0.0.
  * Definition: edgeAnswer (crossingOf a b), crates/bridgeyarn/specs/Edge.antt and crates/marching_cubes_impl/specs/Edge.antt. */
 bridgeyarn_edge_answer bridgeyarn_edge(float a, float b);
+
+/* ---- a sample record
+ *
+ * Five little-endian u32: version 1, size n, numbering (0 crate, 1 joined), sample count n * n * (n + 1), and the byte place of the samples,
+ * always 20; then the samples as little-endian f32, and nothing after them. */
+
+typedef struct {
+    uint32_t cause;      /* 0, BAD_SIZE, BAD_NUMBERING, BAD_COUNT or BAD_RECORD */
+    uint64_t place;      /* after BAD_RECORD: the byte place                    */
+    uint32_t size;       /* after 0                                             */
+    uint32_t numbering;  /* after 0                                             */
+} bridgeyarn_record_answer;
+
+/* What the bytes hold, or the first refusal in this order: under 20 bytes (BAD_RECORD, place = length); version (BAD_RECORD, place 0); size
+ * under 2 or over 128 (BAD_SIZE); BAD_NUMBERING; BAD_COUNT; place of the samples (BAD_RECORD, place 16); length other than 20 + 4 * count
+ * (BAD_RECORD, place 20). The bytes are only read, and the samples not looked at; any bytes are taken, and none (NULL, 0).
+ * Definition: recordAnswer (recordOf 128 bytes), crates/bridgeyarn/specs/Record.antt and crates/sample_record/specs/Record.antt. */
+bridgeyarn_record_answer bridgeyarn_record(const uint8_t *bytes, size_t length);
 
 /* ---- Morton keys
  *

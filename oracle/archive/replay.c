@@ -5,7 +5,7 @@
 #include <stdlib.h>
 #include <string.h>
 
-enum { CELL = 1, EDGE = 2, KEY = 3 };
+enum { CELL = 1, EDGE = 2, KEY = 3, RECORD = 5 };
 
 static FILE *in;
 static unsigned long replayed;
@@ -76,6 +76,24 @@ static void replay_key(void)
     hold("bridgeyarn_morton_difference", &word, sizeof word);
 }
 
+static void replay_record(void)
+{
+    uint32_t length;
+    unsigned char *bytes;
+    bridgeyarn_record_answer answer;
+    get(&length, sizeof length);
+    bytes = malloc(length + 1);
+    if (bytes == NULL)
+        fail("no memory");
+    get(bytes, length);
+    answer = bridgeyarn_record(bytes, length);
+    free(bytes);
+    hold("bridgeyarn_record", &answer.cause, sizeof answer.cause);
+    hold("bridgeyarn_record", &answer.place, sizeof answer.place);
+    hold("bridgeyarn_record", &answer.size, sizeof answer.size);
+    hold("bridgeyarn_record", &answer.numbering, sizeof answer.numbering);
+}
+
 int main(int count, char **words)
 {
     uint32_t call;
@@ -89,6 +107,7 @@ int main(int count, char **words)
         case CELL: replay_cell(); break;
         case EDGE: replay_edge(); break;
         case KEY: replay_key(); break;
+        case RECORD: replay_record(); break;
         default: fail("no such call");
         }
         replayed++;

@@ -2,4 +2,6 @@
 // include/bridgeyarn.h declares them, and nothing else. Each takes any arguments and answers.
 pub mod cell;
 pub mod edge;
+pub mod extraction;
 pub mod key;
+pub mod record;

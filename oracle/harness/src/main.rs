@@ -3,9 +3,12 @@
 //!     harness compare [COUNT] [NAME..]    every test, or those whose names begin with a NAME, over COUNT random cases each
 //!     harness replay FILE [COUNT]         requests and the Rust's answers, for the C driver of the archive
 mod cell;
+mod extraction;
+mod grids;
 mod morton;
 mod positions;
 mod random;
+mod record;
 mod replay;
 
 pub use exposed as isosurface;
@@ -13,7 +16,7 @@ pub use exposed as isosurface;
 /// A behaviour that is compared, and a function from the number of random cases to a summary or to the first difference.
 pub type Test = (&'static str, fn(u64) -> Result<String, String>);
 
-const SUBJECTS: &[&[Test]] = &[cell::TESTS, positions::TESTS, morton::TESTS];
+const SUBJECTS: &[&[Test]] = &[cell::TESTS, positions::TESTS, morton::TESTS, record::TESTS, extraction::TESTS];
 
 fn compare(count: u64, names: &[String]) -> i32 {
     let chosen = |name: &str| names.is_empty() || names.iter().any(|n| name.starts_with(n.as_str()));

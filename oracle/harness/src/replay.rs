@@ -3,12 +3,14 @@
 use crate::cell;
 use crate::morton;
 use crate::random::Random;
+use crate::record;
 use std::fs::File;
 use std::io::{BufWriter, Result, Write};
 
 const CELL: u32 = 1;
 const EDGE: u32 = 2;
 const KEY: u32 = 3;
+const RECORD: u32 = 5;
 
 struct Replay(BufWriter<File>);
 
@@ -60,10 +62,28 @@ fn keys(out: &mut Replay, count: u64) -> Result<()> {
     Ok(())
 }
 
+fn record(out: &mut Replay, bytes: &[u8]) -> Result<()> {
+    let answer = record::expected(bytes);
+    out.words(&[RECORD, bytes.len() as u32])?;
+    out.0.write_all(bytes)?;
+    out.words(&[answer.cause, answer.place as u32, (answer.place >> 32) as u32, answer.size, answer.numbering])
+}
+
+/// Small records, whole and damaged, and the largest of either numbering.
+fn records(out: &mut Replay, count: u64) -> Result<()> {
+    let mut random = Random::new(15);
+    let mut bytes = record::Bytes::new(&mut random, 128);
+    for _ in 0..count {
+        record(out, bytes.draw(&mut random, 4))?;
+    }
+    (0..2).try_for_each(|numbering| record(out, bytes.good(128, numbering)))
+}
+
 pub fn write(path: &str, count: u64) -> Result<()> {
     let mut out = Replay(BufWriter::new(File::create(path)?));
     cells(&mut out, count)?;
     edges(&mut out, count)?;
     keys(&mut out, count)?;
+    records(&mut out, count)?;
     out.0.flush()
 }

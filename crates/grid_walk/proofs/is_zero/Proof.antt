@@ -1,0 +1,14 @@
+-- `is_zero`: the test as a number.
+use native.Mathlib.Omega.{arith}
+use borrow.Author.Tests.{eq-eqb, ne-eqb}
+use Rattle.grid_walk.proofs.is_zero.Statement.{statement}
+use Rattle.grid_walk.proofs.is_zero.Tie as tie
+
+returns : tie.Need-returns
+returns c = (rw (eq-eqb _ 0 (c .if1 .taken)), omega arith)
+
+returns-2 : tie.Need-returns-2
+returns-2 c = (rw (ne-eqb _ 0 (c .if1 .left)), omega arith)
+
+pub is-zero-spec : {M : Type 1} → statement M
+is-zero-spec = tie.close (tie.spec returns returns-2)

@@ -1,0 +1,94 @@
+-- `visit`: a number of `current`, or the next vertex.
+use mathlib.Core.Path.{refl}
+use native.Mathlib.Omega.{arith}
+use borrow.Author.Needs.{needs}
+use Rattle.index_cache.proofs.HeldVisit.{visit-named, visit-made}
+use Rattle.index_cache.proofs.visit.Statement.{statement}
+use Rattle.index_cache.proofs.visit.Tie as tie
+
+mul-number : tie.Need-mul-number
+mul-number c = search needs
+
+element-copy-out-number : tie.Need-element-copy-out-number
+element-copy-out-number c = search needs
+
+put-index-requires : tie.Need-put-index-requires
+put-index-requires c κs = search needs
+
+add-t24 : tie.Need-add-t24
+add-t24 c = search needs
+
+same-length : tie.Need-same-length
+same-length c = search needs
+
+returns : tie.Need-returns
+returns c =
+    let named = c .before .before .before in
+    let at-if = named .before .before in
+    let start = at-if .before .before .before .before .before .before in
+    (visit-named _ _ _ _ _ _ _ _ _ _ _ _ (start .args .counts) _ _ refl (omega arith) (named .put-index .ensures), (refl, omega arith))
+
+put-requires : tie.Need-put-requires
+put-requires c κs = search needs
+
+mul-current : tie.Need-mul-current
+mul-current c = search needs
+
+element-write-current : tie.Need-element-write-current
+element-write-current c = search needs
+
+put-vertex-requires : tie.Need-put-vertex-requires
+put-vertex-requires c κs = search needs
+
+put-index-requires-2 : tie.Need-put-index-requires-2
+put-index-requires-2 c κs = search needs
+
+add-t19 : tie.Need-add-t19
+add-t19 c = search needs
+
+add-t34 : tie.Need-add-t34
+add-t34 c =
+    let start = c .before .before .before .before .before .before .before .before .before .before .before .before .before .before .before .before .before .before .before .before in
+    omega (arith, start .pre .1)
+
+same-length-2 : tie.Need-same-length-2
+same-length-2 c = search needs
+
+same-length-3 : tie.Need-same-length-3
+same-length-3 c = search needs
+
+same-length-4 : tie.Need-same-length-4
+same-length-4 c = search needs
+
+returns-2 : tie.Need-returns-2
+returns-2 c =
+    let indexed = c .before .before .before .before in
+    let stored = indexed .before .before .before .before in
+    let cached = stored .before .before .before .before in
+    let at-if = cached .before .before in
+    let start = at-if .before .before .before .before .before .before in (
+      visit-made _ _ _ _ _ _ _ _ _ _ _ _ (start .args .counts) _ _ _ _ refl (omega arith) (cached .put .ensures) (stored .put-vertex .ensures) (indexed .put-index2 .ensures),
+      (refl, omega arith),
+    )
+
+pub visit-spec : {M : Type 1} → statement M
+visit-spec =
+    tie.close
+    (tie.spec
+    mul-number
+    element-copy-out-number
+    put-index-requires
+    add-t24
+    same-length
+    returns
+    put-requires
+    mul-current
+    element-write-current
+    put-vertex-requires
+    put-index-requires-2
+    add-t19
+    add-t34
+    same-length-2
+    same-length-3
+    same-length-4
+    returns-2)

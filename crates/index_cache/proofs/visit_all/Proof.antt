@@ -1,0 +1,90 @@
+-- `visit_all`: what is left to visit leads to the same end.
+use mathlib.Core.Path.{_≡_, refl}
+use Prim.Native.Nat.{_+_, _≤_}
+use native.Mathlib.Omega.{arith}
+use lib.ListN.{length}
+use borrow.Author.Needs.{needs}
+use Rattle.packed_tables.specs.Unpacked.{unpacked, Edges}
+use Rattle.lent_mesh.specs.Stored.{inHand}
+use Rattle.index_cache.specs.CellMemory.{inCell}
+use Rattle.index_cache.proofs.PackedVisits.{ToGo, edges-first, edges-rest, turn-taken, all-taken}
+use Rattle.index_cache.proofs.visit_all.Statement.{statement}
+use Rattle.index_cache.proofs.visit_all.Tie as tie
+
+abbrev Inv-loop : tie.InvT-loop
+Inv-loop samples coordinates n x y z layer row count edges current₀ work₀ vertices₀ indices₀ left₀ rest₀ reached₀ current work vertices indices left rest reached =
+    (reached .made ≤ reached .written) × (reached .written + left ≡ reached₀ .written + count) × (length work ≡ length work₀) × (length vertices ≡ length vertices₀)
+    × (length indices ≡ length indices₀)
+    × Edges (unpacked left rest)
+    × ToGo n samples x y z left rest (inHand (inCell work layer row current) vertices indices reached) count edges
+    (inHand (inCell work₀ layer row current₀) vertices₀ indices₀ reached₀)
+
+abbrev μ-loop : tie.MeasureT-loop
+μ-loop samples coordinates n x y z layer row count edges current₀ work₀ vertices₀ indices₀ left₀ rest₀ reached₀ current work vertices indices left rest reached =
+    left
+
+loop-holds : tie.Need-loop-holds Inv-loop μ-loop
+loop-holds c =
+    let start = c .before .before .before .before in
+    (omega arith, refl, refl, refl, refl, start .pre .1 .1 .0 .1, refl)
+
+visit-requires : tie.Need-visit-requires Inv-loop μ-loop
+visit-requires c κs =
+    let turn = c .before .before .before .before .before in
+    let start = turn .before .before .before .before .before in
+    let room = start .pre .1 .0 in (
+      start .pre .0,
+      (
+        record { most = room .most; layer-le = room .layer-le; row-le = room .row-le; room = omega arith },
+        ((edges-first _ _ (omega arith) (turn .loop .inv .5), start .pre .1 .1 .0 .0), (omega arith, omega arith)),
+      ),
+    )
+
+sub-left : tie.Need-sub-left Inv-loop μ-loop
+sub-left c = search needs
+
+loop-less : tie.Need-loop-less Inv-loop μ-loop
+loop-less c = search needs
+
+loop-again : tie.Need-loop-again Inv-loop μ-loop
+loop-again c =
+    let visited = c .before .before .before .before .before .before in
+    let turn = visited .before .before .before .before .before .before in (
+      omega arith,
+      omega arith,
+      omega arith,
+      omega arith,
+      omega arith,
+      edges-rest _ _ (omega arith) (turn .loop .inv .5),
+      turn-taken _ _ _ _ _ (turn .loop .left) (turn .loop .rest) _ _ _ _ _ (omega arith) (visited .visit .ensures .0) (turn .loop .inv .6),
+    )
+
+same-length : tie.Need-same-length Inv-loop μ-loop
+same-length c = search needs
+
+same-length-2 : tie.Need-same-length-2 Inv-loop μ-loop
+same-length-2 c = search needs
+
+same-length-3 : tie.Need-same-length-3 Inv-loop μ-loop
+same-length-3 c = search needs
+
+returns : tie.Need-returns Inv-loop μ-loop
+returns c =
+    let end = c .before in
+    (all-taken _ _ _ _ _ (end .loop .left) (end .loop .rest) _ _ _ _ (omega arith) (end .loop .inv .6), (omega arith, end .loop .inv .0))
+
+pub visit-all-spec : {M : Type 1} → statement M
+visit-all-spec =
+    tie.close
+    (tie.spec
+    Inv-loop
+    μ-loop
+    loop-holds
+    visit-requires
+    sub-left
+    loop-less
+    loop-again
+    same-length
+    same-length-2
+    same-length-3
+    returns)

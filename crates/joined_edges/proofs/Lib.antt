@@ -1,0 +1,4 @@
+pub mod TwelveSlots
+pub mod PackedSteps
+pub mod NewEdges
+pub mod CellWords

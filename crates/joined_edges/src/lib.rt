@@ -1,0 +1,196 @@
+// One cell of the joined walk, in lent memory: its new edges are numbered and their vertices put, then
+// the numbers of its row's edges are written as indices. Both lists come packed, a word for a cell.
+ghost use mathlib.Core.Path.{_≡_};
+ghost use mathlib.Core.List.{List};
+ghost use Prim.Native.Nat.{ℕ, _+_, _*_, _^_, _≤_, _<_};
+ghost use lib.ListN.{length, getD};
+ghost use lib.Ieee.{Float};
+ghost use Rattle.walk.specs.Walk.{Visit, Inside, signs};
+ghost use Rattle.walk_models.specs.Owned.{makeEdge, nameEdge, ownedCell, countCell};
+ghost use Rattle.packed_tables.specs.Unpacked.{unpacked, Edges};
+ghost use Rattle.packed_tables.specs.Packed.{rowWords, newWords};
+ghost use Rattle.lent_mesh.specs.Grid.{insideOf};
+ghost use Rattle.lent_mesh.specs.Stored.{storeAt, inHand, CellOf, Coordinates};
+ghost use Rattle.joined_edges.specs.OneCell.{Slots, SlotsFrom, each, classOf, countOf};
+use lent_mesh::Counts;
+
+// Where the twelve edges of a cell of layer z have their numbers, from the cell's own place on.
+pub fn slots(n: usize, z: usize) -> [usize; 12]
+    requires { ⌜ n ≤ 128 ⌝ }
+    ensures { λ r. ⌜ Slots n z r ⌝ }
+{
+    let here = z % 2;
+    let above = 1 - here;
+    let row = 8 * n;
+    [
+        here,
+        10 + here,
+        row + here,
+        2 + here,
+        above,
+        10 + above,
+        row + above,
+        2 + above,
+        4,
+        12,
+        row + 12,
+        row + 4,
+    ]
+}
+
+// The next numbers go to the edges of the list, each with its vertex.
+fn make_all(
+    samples: &[f32],
+    coordinates: &[f32; 129],
+    slots: &[usize; 12],
+    n: usize,
+    x: usize,
+    y: usize,
+    z: usize,
+    at: usize,
+    list: u64,
+    count: usize,
+    work: &mut [u32],
+    vertices: &mut [f32],
+    counts: Counts,
+) -> Counts
+    requires { ⌜ CellOf (now samples) n x y z ⌝ }
+    requires { ⌜ Coordinates n (now coordinates) × SlotsFrom at (now slots) n x y z ⌝ }
+    requires { ⌜ Edges (unpacked count list) × (count ≤ 15) ⌝ }
+    requires { ⌜ (8 * (n * n) ≤ length (now work)) × (counts .made + 15 < 2 ^ 32) ⌝ }
+    ensures { λ r. ⌜ ((l : List ℕ) → inHand (now (work .exit)) (now (vertices .exit)) l r
+        ≡ each (makeEdge (storeAt n (now (samples .entry))) n z y x) (unpacked count list) (inHand (now (work .entry)) (now (vertices .entry)) l counts)) ⌝ }
+    ensures { λ r. ⌜ (r .made ≡ counts .made + count) × (r .written ≡ counts .written) ⌝ }
+{
+    let written = counts.written;
+    let mut made = counts.made;
+    let mut rest = list;
+    let mut left = count;
+    while 0 < left {
+        let edge = (rest % 16) as usize;
+        let place = at + slots[edge];
+        work[place] = made;
+        lent_mesh::put_vertex(samples, coordinates, n, x, y, z, edge, vertices, made);
+        made += 1;
+        rest = rest / 16;
+        left -= 1;
+    }
+    Counts { made, written }
+}
+
+// The numbers of the edges of the list are the next indices.
+fn name_all(
+    slots: &[usize; 12],
+    at: usize,
+    list: u64,
+    count: usize,
+    work: &[u32],
+    indices: &mut [u32],
+    counts: Counts,
+) -> Counts
+    requires { ⌜ Edges (unpacked count list) × (count ≤ 15) ⌝ }
+    requires { ⌜ ((e : ℕ) → e < 12 → at + getD (now slots) e 0 < length (now work)) × (counts .written + 15 < 2 ^ 32) ⌝ }
+    ensures { λ r. ⌜ ((n x y z : ℕ) (store : Visit → ℕ → List Float → List Float) (b : List Float) → SlotsFrom at (now (slots .entry)) n x y z
+        → inHand (now (work .entry)) b (now (indices .exit)) r
+        ≡ each (nameEdge store n z y x) (unpacked count list) (inHand (now (work .entry)) b (now (indices .entry)) counts)) ⌝ }
+    ensures { λ r. ⌜ (r .made ≡ counts .made) × (r .written ≡ counts .written + count) ⌝ }
+{
+    let made = counts.made;
+    let mut written = counts.written;
+    let mut rest = list;
+    let mut left = count;
+    while 0 < left {
+        let edge = (rest % 16) as usize;
+        let place = at + slots[edge];
+        lent_mesh::put_index(indices, written, work[place]);
+        written += 1;
+        rest = rest / 16;
+        left -= 1;
+    }
+    Counts { made, written }
+}
+
+// A table of 256 cases for each class.
+fn new_word(news: &[u64; 2048], case: usize, class: usize) -> u64
+    requires { ⌜ (case < 256) × (class < 8) ⌝ }
+    ensures { λ r. ⌜ r ≡ getD (now (news .entry)) (256 * class + case) 0 ⌝ }
+{
+    news[256 * class + case]
+}
+
+// One cell. Its case is its sign byte, its class says which of its edges it owns; there is a word for
+// each case in `rows` and for each class and case in `news`.
+pub fn joined_cell(
+    rows: &[u64; 256],
+    news: &[u64; 2048],
+    samples: &[f32],
+    coordinates: &[f32; 129],
+    slots: &[usize; 12],
+    n: usize,
+    x: usize,
+    y: usize,
+    z: usize,
+    case: usize,
+    class: usize,
+    work: &mut [u32],
+    vertices: &mut [f32],
+    indices: &mut [u32],
+    counts: Counts,
+) -> Counts
+    requires { ⌜ CellOf (now samples) n x y z ⌝ }
+    requires { ⌜ (now rows ≡ rowWords) × (now news ≡ newWords) × Coordinates n (now coordinates) × Slots n z (now slots) ⌝ }
+    requires { ⌜ (case ≡ signs (insideOf n (now samples)) x y z) × (class ≡ classOf x y z) ⌝ }
+    requires { ⌜ (8 * (n * n) ≤ length (now work)) × (counts .made ≤ counts .written) × (counts .written + 15 < 2 ^ 32) ⌝ }
+    ensures { λ r. ⌜ inHand (now (work .exit)) (now (vertices .exit)) (now (indices .exit)) r
+        ≡ ownedCell (storeAt n (now (samples .entry))) n (insideOf n (now (samples .entry))) z y x (inHand (now (work .entry)) (now (vertices .entry)) (now (indices .entry)) counts) ⌝ }
+    ensures { λ r. ⌜ (r .made ≤ r .written) × (r .written ≤ counts .written + 15) ⌝ }
+{
+    let fresh = new_word(news, case, class);
+    let row = rows[case];
+    let at = 8 * (y * n + x);
+    let made = make_all(
+        samples,
+        coordinates,
+        slots,
+        n,
+        x,
+        y,
+        z,
+        at,
+        fresh % 0x1000_0000_0000_0000,
+        (fresh >> 60) as usize,
+        work,
+        vertices,
+        counts,
+    );
+    name_all(
+        slots,
+        at,
+        row % 0x1000_0000_0000_0000,
+        3 * ((row >> 60) as usize),
+        work,
+        indices,
+        made,
+    )
+}
+
+// What one cell adds to the counts, from the two words alone.
+pub fn joined_counts(
+    rows: &[u64; 256],
+    news: &[u64; 2048],
+    case: usize,
+    class: usize,
+    counts: Counts,
+) -> Counts
+    requires { ⌜ (now rows ≡ rowWords) × (now news ≡ newWords) × (case < 256) × (class < 8) ⌝ }
+    requires { ⌜ (counts .made ≤ counts .written) × (counts .written + 15 < 2 ^ 32) ⌝ }
+    ensures { λ r. ⌜ ((g : Inside) (x y z : ℕ) → case ≡ signs g x y z → class ≡ classOf x y z → countOf r ≡ countCell g z y x (countOf counts)) ⌝ }
+    ensures { λ r. ⌜ (r .made ≤ r .written) × (r .written ≤ counts .written + 15) ⌝ }
+{
+    let fresh = new_word(news, case, class);
+    let row = rows[case];
+    Counts {
+        made: counts.made + ((fresh >> 60) as u32),
+        written: counts.written + 3 * ((row >> 60) as u32),
+    }
+}

@@ -1,0 +1,5 @@
+pub mod Places
+pub mod EndOffsets
+pub mod VertexOn
+pub mod Points
+pub mod Floats

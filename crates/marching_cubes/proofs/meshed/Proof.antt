@@ -1,0 +1,99 @@
+-- `meshed`: the causes of an accepted grid, from what `count` and `fill` promise.
+use mathlib.Core.Path.{_≡_, sym, _∙_}
+use native.Mathlib.Omega.{arith}
+use borrow.Author.Needs.{needs}
+use Rattle.marching_cubes.specs.Outcome.{workRoom}
+use Rattle.marching_cubes.proofs.ByCause.{vertices-left, indices-left, done-left}
+use Rattle.marching_cubes.proofs.Passes.{cleared-again, cleared-zeros}
+use Rattle.marching_cubes.proofs.meshed.Statement.{statement}
+use Rattle.marching_cubes.proofs.meshed.Tie as tie
+
+count-requires : tie.Need-count-requires
+count-requires c κs = c .before .before .before .before .before .pre
+
+cast-floats : tie.Need-cast-floats
+cast-floats c = let most = c .before .before .before .count .ensures .1 .1 in omega (arith, most .0, most .1)
+
+mul-floats : tie.Need-mul-floats
+mul-floats c = let most = c .before .before .before .count .ensures .1 .1 in omega (arith, most .0, most .1)
+
+counted-requires : tie.Need-counted-requires
+counted-requires c κs = search needs
+
+same-length : tie.Need-same-length
+same-length c = search needs
+
+returns : tie.Need-returns
+returns c =
+    let found = c .before .before .before .before .before .count .ensures in
+    vertices-left _ _ _ _ _ _ _ _ _ _ _ (found .1 .0 .0) (found .1 .0 .1) (c .counted .ensures) (found .0) (c .before .if1 .taken)
+
+cast-if2 : tie.Need-cast-if2
+cast-if2 c = let most = c .before .before .before .before .before .count .ensures .1 .1 in omega (arith, most .0)
+
+counted-requires-2 : tie.Need-counted-requires-2
+counted-requires-2 c κs = search needs
+
+same-length-2 : tie.Need-same-length-2
+same-length-2 c = search needs
+
+returns-2 : tie.Need-returns-2
+returns-2 c =
+    let found = c .before .before .before .before .before .before .before .count .ensures in
+    indices-left _ _ _ _ _ _ _ _ _ _ _ (found .1 .0 .0) (found .1 .0 .1) (c .counted2 .ensures) (found .0) (c .before .before .before .if1 .left) (c .before .if2 .taken)
+
+fill-requires : tie.Need-fill-requires
+fill-requires c κs =
+    let found = c .before .before .before .before .before .before .before .before .before .count .ensures in
+    let made = found .1 .0 .0 in
+    let written = found .1 .0 .1 in
+    let floats = c .before .before .before .before .before .if1 .left in
+    let words = c .before .before .before .if2 .left in
+    let pre = c .before .before .before .before .before .before .before .before .before .before .before .before .before .before .before .pre in
+    let room = pre .work-room in
+    let same = c .before .before .before .before .before .before .before .before .work .given in
+    ((record { least = pre .least; most = pre .most; samples-whole = pre .samples-whole; work-room = omega arith }, cleared-zeros (workRoom (c .before .before .before .before .before .before .before .before .before .before .before .before .before .before .before .args .n)) (c .before .before .before .before .before .before .before .before .before .before .before .before .before .before .before .args .work .now) _ (found .0)), (omega arith, omega arith))
+
+counted-requires-3 : tie.Need-counted-requires-3
+counted-requires-3 c κs = search needs
+
+same-length-3 : tie.Need-same-length-3
+same-length-3 c = search needs
+
+same-length-4 : tie.Need-same-length-4
+same-length-4 c = search needs
+
+same-length-5 : tie.Need-same-length-5
+same-length-5 c = search needs
+
+returns-3 : tie.Need-returns-3
+returns-3 c =
+    let start = c .before .before .before .before .before .before .before .before .before .before .before .before .before .before .before .before .before .before .before .before .before .before .before in
+    let found = c .before .before .before .before .before .before .before .before .before .before .before .before .before .before .before .before .before .count .ensures in
+    let filled = c .before .before .before .before .before .before .before .fill .ensures in
+    let made = found .1 .0 .0 in
+    let written = found .1 .0 .1 in
+    let floats = c .before .before .before .before .before .before .before .before .before .before .before .before .before .if1 .left in
+    let words = c .before .before .before .before .before .before .before .before .before .before .before .if2 .left in
+    done-left _ _ _ _ _ _ _ _ _ _ _ _ _ made written (c .counted3 .ensures) (cleared-again (workRoom (start .args .n)) (start .args .work .now) _ _ (found .0) (filled .0)) (filled .1 .0) (filled .1 .1) (omega arith) (omega arith)
+
+pub meshed-spec : {M : Type 1} → statement M
+meshed-spec =
+    tie.close
+    (tie.spec
+    count-requires
+    cast-floats
+    mul-floats
+    counted-requires
+    same-length
+    returns
+    cast-if2
+    counted-requires-2
+    same-length-2
+    returns-2
+    fill-requires
+    counted-requires-3
+    same-length-3
+    same-length-4
+    same-length-5
+    returns-3)

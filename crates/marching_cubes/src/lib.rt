@@ -1,0 +1,159 @@
+// The extraction (`extract` of marching_cubes.rs) over lent memory: the causes in order, then count,
+// then fill. Outputs are counted first, so that a refusal leaves them as they were.
+ghost use mathlib.Core.Path.{_≡_};
+ghost use mathlib.Core.List.{map};
+ghost use Prim.Native.Nat.{ℕ, _+_, _*_, _≤_, _<_};
+ghost use lib.ListN.{length, getD, replicate};
+ghost use Rattle.lent_mesh.specs.Grid.{positionAt, floatsOf};
+ghost use Rattle.marching_cubes.specs.Outcome.{Outcome, workRoom, surfaceOf, over, left, filled, outcome};
+ghost use Rattle.marching_cubes.specs.Accepted.{Accepted};
+use lent_mesh::Counts;
+
+// The common answer. A field that the cause does not use is 0.
+#[repr(C)]
+pub struct Answer {
+    pub cause: u32,
+    pub place: u64,
+    pub vertices: u64,
+    pub indices: u64,
+}
+
+fn refused(cause: u32, place: usize) -> Answer
+    ensures { λ r. ⌜ r ≡ record { cause = cause; place = place; vertices = 0; indices = 0 } ⌝ }
+{
+    Answer {
+        cause: cause,
+        place: place as u64,
+        vertices: 0,
+        indices: 0,
+    }
+}
+
+fn counted(cause: u32, counts: Counts) -> Answer
+    ensures { λ r. ⌜ r ≡ record { cause = cause; place = 0; vertices = counts .made; indices = counts .written } ⌝ }
+{
+    Answer {
+        cause: cause,
+        place: 0,
+        vertices: counts.made as u64,
+        indices: counts.written as u64,
+    }
+}
+
+// The first `count` words become 0.
+fn clear(work: &mut [u32], count: usize)
+    requires { ⌜ count ≤ length (now work) ⌝ }
+    ensures { λ _. ⌜ now (work .exit) ≡ over (replicate count 0) (now (work .entry)) ⌝ }
+{
+    let mut i: usize = 0;
+    while i < count {
+        work[i] = 0;
+        i += 1;
+    }
+}
+
+fn work_room(n: usize) -> usize
+    requires { ⌜ n ≤ 128 ⌝ }
+    ensures { λ r. ⌜ r ≡ workRoom n ⌝ }
+{
+    8 * (n * n) + 6 * n
+}
+
+// How many vertices and indices the grid has: the walk over no room. The working memory that the size
+// asks for is zero afterwards, whatever it held.
+fn count(numbering: u32, samples: &[f32], n: usize, work: &mut [u32]) -> Counts
+    requires { ⌜ Accepted n (now samples) (now work) ⌝ }
+    ensures { λ r. ⌜ now (work .exit) ≡ over (replicate (workRoom n) 0) (now (work .entry)) ⌝ }
+    ensures { λ r. ⌜ (r .made ≡ length (surfaceOf n numbering (now (samples .entry)) .made)) × (r .written ≡ length (surfaceOf n numbering (now (samples .entry)) .indices)) ⌝ }
+    ensures { λ r. ⌜ (r .written ≤ 31211520) × (r .made ≤ r .written) ⌝ }
+{
+    let room = work_room(n);
+    let mut no_floats = [0.0f32; 1];
+    let mut no_words = [0u32; 1];
+    clear(work, room);
+    let counts = grid_walk::walk(numbering, samples, n, work, &mut no_floats, &mut no_words);
+    clear(work, room);
+    counts
+}
+
+// The mesh is written, where there is room for it and the working memory is zero.
+fn fill(
+    numbering: u32,
+    samples: &[f32],
+    n: usize,
+    work: &mut [u32],
+    vertices: &mut [f32],
+    indices: &mut [u32],
+)
+    requires { ⌜ Accepted n (now samples) (now work) × ((i : ℕ) → i < workRoom n → getD (now work) i 0 ≡ 0) ⌝ }
+    requires { ⌜ (3 * length (surfaceOf n numbering (now samples) .made) ≤ length (now vertices)) × (length (surfaceOf n numbering (now samples) .indices) ≤ length (now indices)) ⌝ }
+    ensures { λ _. ⌜ now (work .exit) ≡ over (replicate (workRoom n) 0) (now (work .entry)) ⌝ }
+    ensures { λ _. ⌜ now (vertices .exit) ≡ over (floatsOf (map (positionAt n (now (samples .entry))) (surfaceOf n numbering (now (samples .entry)) .made))) (now (vertices .entry)) ⌝ }
+    ensures { λ _. ⌜ now (indices .exit) ≡ over (surfaceOf n numbering (now (samples .entry)) .indices) (now (indices .entry)) ⌝ }
+{
+    let room = work_room(n);
+    grid_walk::walk(numbering, samples, n, work, vertices, indices);
+    clear(work, room);
+}
+
+// An accepted grid: count, ask for the room, fill. A grid without a surface needs no filling.
+fn meshed(
+    numbering: u32,
+    samples: &[f32],
+    n: usize,
+    work: &mut [u32],
+    vertices: &mut [f32],
+    indices: &mut [u32],
+) -> Answer
+    requires { ⌜ Accepted n (now samples) (now work) ⌝ }
+    ensures { λ r. ⌜ left r (now (work .exit)) (now (vertices .exit)) (now (indices .exit))
+        ≡ filled n numbering (now (samples .entry)) (now (work .entry)) (now (vertices .entry)) (now (indices .entry)) (surfaceOf n numbering (now (samples .entry))) ⌝ }
+{
+    let counts = count(numbering, samples, n, work);
+    let floats = 3 * (counts.made as usize);
+    if vertices.len() < floats {
+        return counted(6, counts);
+    }
+    if indices.len() < counts.written as usize {
+        return counted(7, counts);
+    }
+    fill(numbering, samples, n, work, vertices, indices);
+    counted(0, counts)
+}
+
+// The mesh of the lent samples, in the crate numbering (0) or the joined (1). Causes 1 to 7 are tried in
+// order. After 1 to 5 nothing lent has changed. After 6 and 7 the outputs are unchanged; after 0 the
+// mesh stands at their start and the rest is unchanged. After these three the working memory that the
+// size asks for is zero.
+pub fn extract(
+    size: u32,
+    numbering: u32,
+    samples: &[f32],
+    work: &mut [u32],
+    vertices: &mut [f32],
+    indices: &mut [u32],
+) -> Answer
+    ensures whole { λ r. ⌜ left r (now (work .exit)) (now (vertices .exit)) (now (indices .exit))
+        ≡ outcome size numbering (now (samples .entry)) (now (work .entry)) (now (vertices .entry)) (now (indices .entry)) ⌝ }
+{
+    if size < 2 {
+        return refused(1, 0);
+    }
+    if 128 < size {
+        return refused(1, 0);
+    }
+    if 1 < numbering {
+        return refused(2, 0);
+    }
+    let n = size as usize;
+    if samples.len() != n * n * (n + 1) {
+        return refused(3, 0);
+    }
+    if work.len() < work_room(n) {
+        return refused(4, 0);
+    }
+    if sample_check::any_bad(samples) {
+        return refused(5, sample_check::lowest_bad(samples));
+    }
+    meshed(numbering, samples, n, work, vertices, indices)
+}
