@@ -38,7 +38,7 @@ module _ (n numbering : ℕ) (samples : List Float) (work : List ℕ) (vertices 
       (of-refusal : (cause place : ℕ) → 1 ≤ cause → cause ≤ 5 → P (refused n numbering samples work vertices indices cause place))
       (of-room : (cause : ℕ) → 6 ≤ cause → cause ≤ 7 → P (meshed n numbering samples work vertices indices cause (surfaceOf n numbering samples) vertices indices))
       (of-done : P (meshed n numbering samples work vertices indices 0 (surfaceOf n numbering samples)
-          (over (floatsOf (map (positionAt n samples) (surfaceOf n numbering samples .made))) vertices) (over (surfaceOf n numbering samples .indices) indices))) where
+      (over (floatsOf (map (positionAt n samples) (surfaceOf n numbering samples .made))) vertices) (over (surfaceOf n numbering samples .indices) indices))) where
     every-outcome : P o
     unfolding outcome filled
     every-outcome =
@@ -84,7 +84,7 @@ module _ (n numbering : ℕ) (samples : List Float) (work : List ℕ) (vertices 
   pub demand-2 : Accepted n samples work → numbering ≤ 1 → length samples ≤ lowestBad samples
       → 3 * length (surfaceOf n numbering samples .made) ≤ length vertices → length (surfaceOf n numbering samples .indices) ≤ length indices
       → o ≡ meshed n numbering samples work vertices indices 0 (surfaceOf n numbering samples)
-          (over (floatsOf (map (positionAt n samples) (surfaceOf n numbering samples .made))) vertices) (over (surfaceOf n numbering samples .indices) indices)
+      (over (floatsOf (map (positionAt n samples) (surfaceOf n numbering samples .made))) vertices) (over (surfaceOf n numbering samples .indices) indices)
   demand-2 a known good rv ri =
       accepted n numbering samples work vertices indices (a .least) (a .most) known (a .samples-whole) (a .work-room) good
       ∙ room-enough n numbering samples work vertices indices (surfaceOf n numbering samples) rv ri
