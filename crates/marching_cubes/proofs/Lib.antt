@@ -3,4 +3,3 @@ pub mod ByCause
 pub mod Left
 pub mod Passes
 pub mod Demands
-mod Cases

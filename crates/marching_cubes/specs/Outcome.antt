@@ -1,5 +1,5 @@
 -- What `extract` answers and leaves in all memory lent to it: document 01, "Causes, numbers and what is left behind". Held to W1 to W11 by
--- `proofs/Cases.antt`, and to the Rust by the oracle.
+-- crates/cases, and to the Rust by the oracle.
 use mathlib.Core.Bool.{Bool, cond, not, _||_}
 use mathlib.Core.List.{List, [], _∷_, _++_, map}
 use Prim.Native.Nat.{ℕ, _+_, _*_}
