@@ -1,7 +1,7 @@
 # make demo   builds the library and shows a result
 # make test   compares with the Rust, tests the C boundary, and proves everything; its last line is the prover's count
 .DELETE_ON_ERROR:
-.PHONY: demo test setup layout unchanged header oracle archive prove
+.PHONY: demo test setup layout names evidence unchanged header oracle archive prove
 
 CASES ?= 1000000
 HARNESS := build/oracle/release/harness
@@ -10,13 +10,21 @@ demo: build/archive/libbridgeyarn.a
 	tools/x86-64-cc build/demo/cases demo/cases.c
 	tools/x86-64-run build/demo/cases
 
-test: layout unchanged header oracle archive prove
+test: layout names unchanged header oracle archive prove
 
 setup:
-	tools/setup cc c++ cargo
+	tools/setup cc c++ cargo python3
 
 layout: setup
 	tools/layout
+
+# what docs/SAFETY.md names is there
+names: setup
+	tools/names
+
+# the tables of docs/EVIDENCE.md, from the repository and what the prover left of its must-fail edits
+evidence: setup
+	tools/evidence
 
 # the published files of the Rust are as they were published
 unchanged: setup
