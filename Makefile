@@ -1,7 +1,7 @@
 # make demo   builds the library and shows a result
 # make test   compares with the Rust, tests the C boundary, and proves everything; its last line is the prover's count
 .DELETE_ON_ERROR:
-.PHONY: demo test setup layout names evidence unchanged header oracle archive prove
+.PHONY: demo test setup layout names evidence mutants unchanged header oracle archive prove
 
 CASES ?= 1000000
 HARNESS := build/oracle/release/harness
@@ -25,6 +25,10 @@ names: setup
 # the tables of docs/EVIDENCE.md, from the repository and what the prover left of its must-fail edits
 evidence: setup
 	tools/evidence
+
+# mechanical edits of the code, each of which the prover must refuse: make mutants N=200
+mutants: setup
+	tools/mutants $(or $(N),20)
 
 # the published files of the Rust are as they were published
 unchanged: setup

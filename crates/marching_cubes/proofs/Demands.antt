@@ -7,7 +7,8 @@ use Prim.Native.Nat.{ℕ, _+_, _*_, _≤_, _<_}
 use native.Mathlib.Omega.{arith}
 use lib.Dec.{eqb, ltb, lit≤}
 use lib.ListN.{length, getD, replicate}
-use lib.Ieee.{Float}
+use lib.Ieee.{Float, nan}
+use Rattle.marching_cubes_impl.specs.Sample.{good}
 use Rattle.walk.specs.Cache.{fresh}
 use Rattle.walk.specs.Numbering.{mesh, joined, crate}
 use Rattle.walk.proofs.Counts.{noVisit}
@@ -15,6 +16,7 @@ use Rattle.positions.specs.Crossing.{GoodGrid}
 use Rattle.walk_positions.proofs.Nearness.{NearVisit, vertices-near}
 use Rattle.lent_mesh.specs.Grid.{insideOf, positionAt, floatsOf}
 use Rattle.sample_check.specs.Samples.{lowestBad}
+use Rattle.sample_check.proofs.Samples.{good-anyBad-none, anyBad-none-length}
 use Rattle.marching_cubes.specs.Outcome.{Outcome, workRoom, Surface, surface, surfaceOf, over, refused, meshed, filled, outcome}
 use Rattle.marching_cubes.specs.Accepted.{Accepted}
 use Rattle.marching_cubes.proofs.ByCause.{accepted, room-enough}
@@ -80,13 +82,14 @@ module _ (n numbering : ℕ) (samples : List Float) (work : List ℕ) (vertices 
   -- ---- demand 2: "On finite samples of magnitude at most 2^126, crate numbering gives the Rust's own vertices and indices, and joined gives one vertex for
   -- each grid edge whose ends differ in sign, in order of first use. Neither is refused but for a listed cause."
 
-  -- An accepted grid with room for its mesh is meshed: the outputs begin with the vertices of the surface, three floats each, and its indices.
-  pub demand-2 : Accepted n samples work → numbering ≤ 1 → length samples ≤ lowestBad samples
+  -- A grid of good samples that passes causes 1 to 4, with room for its mesh, is meshed: the outputs begin with the vertices of the surface, three floats each, and its indices.
+  pub demand-2 : Accepted n samples work → numbering ≤ 1 → ((i : ℕ) → i < length samples → good (getD samples i nan) ≡ true)
       → 3 * length (surfaceOf n numbering samples .made) ≤ length vertices → length (surfaceOf n numbering samples .indices) ≤ length indices
       → o ≡ meshed n numbering samples work vertices indices 0 (surfaceOf n numbering samples)
       (over (floatsOf (map (positionAt n samples) (surfaceOf n numbering samples .made))) vertices) (over (surfaceOf n numbering samples .indices) indices)
-  demand-2 a known good rv ri =
-      accepted n numbering samples work vertices indices (a .least) (a .most) known (a .samples-whole) (a .work-room) good
+  demand-2 a known all-good rv ri =
+      let none : lowestBad samples ≡ length samples = anyBad-none-length samples (good-anyBad-none samples all-good) in
+      accepted n numbering samples work vertices indices (a .least) (a .most) known (a .samples-whole) (a .work-room) (omega arith)
       ∙ room-enough n numbering samples work vertices indices (surfaceOf n numbering samples) rv ri
 
 -- The surface of numbering 0 is the mesh of the index cache, call for call,
