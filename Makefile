@@ -1,16 +1,22 @@
-# make demo   builds the library and shows a result
+# make demo   builds the library, meshes a sphere with it, and shows a refusal
 # make test   compares with the Rust, tests the C boundary, and proves everything; its last line is the prover's count
 .DELETE_ON_ERROR:
-.PHONY: demo test setup layout names evidence mutants unchanged header oracle archive prove
+.PHONY: demo planner test setup layout names evidence mutants unchanged header oracle archive prove
 
 CASES ?= 1000000
 HARNESS := build/oracle/release/harness
 
-demo: build/archive/libbridgeyarn.a
+demo: planner
 	tools/x86-64-cc build/demo/cases demo/cases.c
 	tools/x86-64-run build/demo/cases
 
-test: layout names unchanged header oracle archive prove
+test: layout names unchanged header oracle archive planner prove
+
+# a C program over the archive that users link: two meshes, and a refusal that leaves the second as it was
+planner: build/archive/libbridgeyarn.a
+	tools/x86-64-cc build/demo/grid planner/grid.c
+	tools/x86-64-cc build/demo/planner planner/planner.c
+	demo/planner
 
 setup:
 	tools/setup cc c++ cargo python3

@@ -8,6 +8,7 @@
 #include <stdio.h>
 #include <stdlib.h>
 #include <string.h>
+#include <time.h>
 
 enum { DONE = 0, REFUSED = 1, USAGE = 2, SYSTEM = 3 };
 
@@ -71,6 +72,7 @@ typedef struct {
     uint32_t *work, *indices;
     size_t sample_count, work_count;
     bridgeyarn_answer answer;
+    double seconds; /* of both calls */
 } job;
 
 static bridgeyarn_answer extract(job *j, size_t vertex_room, size_t index_room)
@@ -82,6 +84,7 @@ static bridgeyarn_answer extract(job *j, size_t vertex_room, size_t index_room)
 /* Asks for the room with none, makes it, and asks again. */
 static int mesh(job *j)
 {
+    clock_t began = clock();
     bridgeyarn_answer room = extract(j, 0, 0);
     if (room.cause != BRIDGEYARN_DONE && room.cause != BRIDGEYARN_SHORT_VERTICES && room.cause != BRIDGEYARN_SHORT_INDICES)
         return refused(room.cause, room.place);
@@ -90,6 +93,7 @@ static int mesh(job *j)
     if (j->vertices == NULL || j->indices == NULL)
         return system_failed("no memory for", "the mesh");
     j->answer = extract(j, 3 * room.vertices, room.indices);
+    j->seconds = (double)(clock() - began) / CLOCKS_PER_SEC;
     if (j->answer.cause != BRIDGEYARN_DONE)
         return refused(j->answer.cause, j->answer.place);
     return DONE;
@@ -131,7 +135,7 @@ int main(int count, char **words)
     int status;
     if (count != 3) {
         fprintf(stderr, "usage: planner RECORD MESH.obj\n"
-                        "Reads a sample record (docs/FORMATS.md), extracts its surface and writes it as a Wavefront OBJ file.\n"
+                        "Reads a sample record (include/bridgeyarn.h says what that is), extracts its surface and writes it as a Wavefront OBJ file.\n"
                         "Exit status: 0 done, 1 refused (MESH.obj is then as it was), 2 usage, 3 a file or memory could not be had.\n");
         return USAGE;
     }
@@ -155,7 +159,7 @@ int main(int count, char **words)
     if (status == DONE)
         status = write_obj(&j, words[2]);
     if (status == DONE)
-        printf("planner: %s: size %u, %s numbering, %lu vertices, %lu triangles\n", words[2], j.size,
-               j.numbering == 0 ? "crate" : "joined", (unsigned long)j.answer.vertices, (unsigned long)j.answer.indices / 3);
+        printf("planner: %s: size %u, %s numbering, V = %lu, I = %lu, %.3f s\n", words[2], j.size,
+               j.numbering == 0 ? "crate" : "joined", (unsigned long)j.answer.vertices, (unsigned long)j.answer.indices, j.seconds);
     return status;
 }

@@ -1,4 +1,4 @@
-/* The kit's clang comes without C headers. These five declare, for x86-64 Linux, just what the C programs of this repository use. */
+/* The kit's clang comes without C headers. These six declare, for x86-64 Linux, just what the C programs of this repository use. */
 #ifndef LIBC_X86_64_STDINT_H
 #define LIBC_X86_64_STDINT_H
 typedef signed char int8_t;
