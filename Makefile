@@ -1,7 +1,8 @@
 # make demo   builds the library, meshes a sphere with it, and shows a refusal
 # make test   compares with the Rust, tests the C boundary, and proves everything; its last line is the prover's count
+# make bench  times the library beside the Rust and writes docs/BENCH.md; make bench-peers times VTK and scikit-image for it
 .DELETE_ON_ERROR:
-.PHONY: demo planner test setup layout names evidence mutants unchanged header oracle archive prove
+.PHONY: demo planner test bench bench-peers setup layout names evidence mutants unchanged header oracle grids fuzz archive prove
 
 CASES ?= 1000000
 HARNESS := build/oracle/release/harness
@@ -50,6 +51,14 @@ header: setup
 oracle: $(HARNESS)
 	$(HARNESS) compare $(CASES)
 
+# whole extractions beside the Rust, as many small grids as asked and one in 5,000 as many large ones: make grids N=1000000
+grids: $(HARNESS)
+	$(HARNESS) grids $(or $(N),100000) $(or $(SEED),1)
+
+# sample records from a coverage-guided fuzzer, for so many seconds: make fuzz SECONDS=600
+fuzz: setup
+	oracle/fuzz/run $(or $(SECONDS),30)
+
 # the archive that users link, on requests and answers that the Rust side wrote
 archive: build/archive/libbridgeyarn.a $(HARNESS)
 	$(HARNESS) replay build/archive/requests 100000
@@ -59,6 +68,13 @@ archive: build/archive/libbridgeyarn.a $(HARNESS)
 # from nothing: every crate, every must-fail edit, every program; nothing may come after it
 prove: setup
 	rt ci
+
+# the library for this machine beside the Rust, in one process; peers that were timed before are listed with it
+bench: build/bench/release/bench
+	build/bench/release/bench run docs/BENCH.md build/bench/peers.md
+
+bench-peers: build/bench/release/bench
+	bench/peers build/bench/release/bench build/bench
 
 SOURCES := crates.txt $(shell find crates -name '*.rt' -o -name '*.antt')
 
@@ -75,4 +91,8 @@ build/native/libbridgeyarn.a: $(SOURCES) tools/native-lib | setup
 $(HARNESS): build/native/libbridgeyarn.a $(shell find oracle -name '*.rs' -o -name '*.toml') | setup
 	cd oracle/isosurface && RUSTFLAGS=-Awarnings CARGO_TARGET_DIR=$(CURDIR)/build/isosurface cargo build --release --offline --quiet
 	cd oracle/harness && BRIDGEYARN_LIB=$(CURDIR)/build/native CARGO_TARGET_DIR=$(CURDIR)/build/oracle cargo build --release --offline --quiet
+	touch $@
+
+build/bench/release/bench: build/native/libbridgeyarn.a $(shell find bench oracle -name '*.rs' -o -name '*.toml') | setup
+	cd bench && BRIDGEYARN_LIB=$(CURDIR)/build/native CARGO_TARGET_DIR=$(CURDIR)/build/bench cargo build --release --offline --quiet
 	touch $@

@@ -3,7 +3,7 @@ use mathlib.Core.Path.{_≡_, refl, sym, ap, _∙_}
 use mathlib.Core.Bool.{Bool, true, false, cond}
 use mathlib.Core.List.{List}
 use Prim.Native.Nat.{ℕ, suc, _+_, _-_, _*_, _%_, _≤_, _<_}
-use native.Mathlib.Nat.{le-trans, mul-le-mul-left, suc-mul}
+use native.Mathlib.Nat.{suc-mul}
 use native.Mathlib.Numerals.{add-one}
 use native.Mathlib.Omega.{arith}
 use lib.Dec.{eqb}
@@ -13,15 +13,16 @@ use Rattle.walk_models.specs.Owned.{cellsOfLayer}
 use Rattle.walk_models.specs.CacheMemory.{clearRow}
 use Rattle.lent_mesh.specs.declared.Counts.{Counts}
 use Rattle.lent_mesh.specs.Stored.{inHand}
+use Rattle.sign_words.proofs.RowWords.{planes-le}
 use Rattle.grid_walk.specs.Steps.{Hand, rowParity, cellStep, layerStep}
 use Rattle.grid_walk.specs.Ready.{LayerOf}
 
--- the first planes of a whole grid
-pub planes-le : (n planes samples : ℕ) → planes ≤ n + 1 → n * n * (n + 1) ≤ samples → n * n * planes ≤ samples
-planes-le n planes samples h l = le-trans (mul-le-mul-left (n * n) h) l
-
 added : (k m : ℕ) → (k % 2 + m) % 2 ≡ (k + m) % 2
 added k m = omega arith
+
+-- rows take turns: 1 - r is the parity of the next row
+pub parity-next : (k r : ℕ) → r ≡ k % 2 → 1 - r ≡ (k + 1) % 2
+parity-next k r e = omega arith
 
 -- rows swap n - 1 times a layer
 pub parity-layer : (n z row : ℕ) → row ≡ rowParity n z 0 → (row + (n - 1)) % 2 ≡ rowParity n (z + 1) 0

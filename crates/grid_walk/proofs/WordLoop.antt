@@ -1,22 +1,21 @@
--- The loop over the set bits of a word of cells: where it stands, and one turn more.
+-- The cells of a word and of a row in lent memory: those whose bit is 0 visit nothing and are passed over.
 use mathlib.Core.Path.{_≡_, refl, sym, ap, _∙_}
 use mathlib.Core.Bool.{Bool, true, false, cond}
 use mathlib.Core.List.{List, []}
-use Prim.Native.Nat.{ℕ, zero, suc, _+_, _*_, _/_, _^_, _≤_, _<_}
-use native.Mathlib.Nat.{div-one}
+use Prim.Native.Nat.{ℕ, zero, suc, _+_, _-_, _*_, _/_, _^_, _≤_, _<_}
 use native.Mathlib.Omega.{arith}
 use lib.Dec.{eqb}
 use lib.Count.{trailingZeros}
 use lib.Ieee.{Float}
 use Rattle.marching_cubes_tables.specs.Rule.{bitAt}
 use Rattle.walk.specs.Walk.{bit, cellEdges, times}
+use Rattle.walk_models.specs.Owned.{Count, cellsOfRow}
 use Rattle.walk_models.proofs.Idle.{ownedCell-idle, crateCell-idle}
 use Rattle.lent_mesh.specs.Grid.{insideOf}
 use Rattle.lent_mesh.specs.Stored.{storeAt}
 use Rattle.sign_words.specs.Cells.{cellsIn, activeWord}
-use Rattle.sign_words.proofs.SetBits.{found-lt, left-next, times-next, to-end}
 use Rattle.sign_words.proofs.ActiveCells.{activeWord-lt, activeWord-idle}
-use Rattle.joined_edges.specs.OneCell.{classOf}
+use Rattle.sign_words.proofs.Turns.{AtBit, found-cell, at-next, at-last, times-idle}
 use Rattle.grid_walk.specs.Steps.{Hand, border, unborder, layerParity, rowParity, cellStep}
 
 -- a cell that visits nothing is passed over
@@ -31,43 +30,34 @@ cellStep-idle numbering n samples z y x s none =
     either true = refl
     either false = refl
 
+abbrev pub handCount : Hand → Count
+handCount s = record { made = s .made; written = s .written }
+
 module _ (numbering n : ℕ) (samples : List Float) (z y k : ℕ) where
   abbrev pub wordStep : ℕ → Hand → Hand
   wordStep i t = cellStep numbering n samples z y (32 * k + i) t
 
   -- the cells of the word before cell i are done
-  pub record AtBit (start here : Hand) (mask rest i : ℕ) : Type 0 where
-    pub left : rest ≡ mask / 2 ^ i
-    pub within : i ≤ cellsIn n k
-    pub state : here ≡ times i wordStep start
-    pub grown : here .written ≤ start .written + 15 * i
-    pub ordered : here .made ≤ here .written
+  abbrev pub Walked : Hand → Hand → ℕ → ℕ → ℕ → Type 0
+  Walked start here mask rest i = AtBit handCount wordStep (cellsIn n k) start here mask rest i
 
-  pub at-first : (start : Hand) (mask : ℕ) → start .made ≤ start .written → AtBit start start mask mask 0
-  unfolding times
-  at-first start mask h = record { left = sym (div-one mask); within = omega arith; state = refl; grown = omega arith; ordered = h }
-
-  module _ (start here : Hand) (mask rest i : ℕ) (at : AtBit start here mask rest i) (active : mask ≡ activeWord n samples y z k) where
-    -- the next set bit is a cell of the word
-    pub found-cell : 0 < rest → (trailingZeros 32 rest < 32) × (i + trailingZeros 32 rest < cellsIn n k)
-    found-cell p = found-lt mask (cellsIn n k) i rest (at .left) (omega arith) (rw active (activeWord-lt n samples y z k)) p
-
+  module _ (start here : Hand) (mask rest i : ℕ) (at : Walked start here mask rest i) (active : mask ≡ activeWord n samples y z k) where
     idle : (j : ℕ) → j < cellsIn n k → bitAt mask j ≡ 0 → wordStep j (times j wordStep start) ≡ times j wordStep start
     idle j l e = cellStep-idle numbering n samples z y (32 * k + j) (times j wordStep start) (activeWord-idle n samples y z k j l (rw active at e))
 
-    pub at-next : (next : Hand) → 0 < rest → next ≡ wordStep (i + trailingZeros 32 rest) here → next .written ≤ here .written + 15 → next .made ≤ next .written
-        → AtBit start next mask (rest / 2 ^ trailingZeros 32 rest / 2 ^ 1) (i + trailingZeros 32 rest + 1)
-    at-next next p e g o =
-        let f = found-cell p in
-        let t = trailingZeros 32 rest in
-        let grown = at .grown in
-        record {
-          left = left-next mask (cellsIn n k) i rest (at .left) t;
-          within = omega (arith, f .1);
-          state = e ∙ times-next wordStep start mask (cellsIn n k) idle i rest 32 here (at .left) (f .1) (at .state);
-          grown = omega arith;
-          ordered = o;
-        }
+    pub walked-found : 0 < rest → (trailingZeros 32 rest < 32) × (i + trailingZeros 32 rest < cellsIn n k)
+    walked-found p = found-cell handCount wordStep (cellsIn n k) start mask here rest i at (omega arith) (rw active (activeWord-lt n samples y z k)) p
 
-    pub at-last : rest ≡ 0 → here ≡ times (cellsIn n k) wordStep start
-    at-last e = at .state ∙ to-end wordStep start mask (cellsIn n k) idle i (at .within) (sym (at .left) ∙ e)
+    pub walked-next : (next : Hand) → 0 < rest → next ≡ wordStep (i + trailingZeros 32 rest) here → next .written ≤ here .written + 15 → next .made ≤ next .written
+        → Walked start next mask (rest / 2 ^ trailingZeros 32 rest / 2 ^ 1) (i + trailingZeros 32 rest + 1)
+    walked-next next p e g o = at-next handCount wordStep (cellsIn n k) start mask here rest i at idle next (walked-found p .1) e g o
+
+    pub walked-last : rest ≡ 0 → here ≡ times (cellsIn n k) wordStep start
+    walked-last e = at-last handCount wordStep (cellsIn n k) start mask here rest i at idle e
+
+-- a row of cells that visit nothing
+pub row-idle : (numbering n : ℕ) (samples : List Float) (z y : ℕ) (s : Hand) → ((x : ℕ) → x + 1 < n → cellEdges (insideOf n samples) x y z ≡ [])
+    → s ≡ cellsOfRow (cellStep numbering n samples) n z y (n - 1) s
+unfolding cellsOfRow
+row-idle numbering n samples z y s none =
+    times-idle (λ x t. cellStep numbering n samples z y x t) s (n - 1) (λ x h. cellStep-idle numbering n samples z y x s (none x (omega arith)))

@@ -6,7 +6,7 @@ ghost use Prim.Native.Nat.{ℕ, _+_, _-_, _*_, _^_, _≤_, _<_};
 ghost use mathlib.Core.Bool.{cond};
 ghost use lib.Dec.{eqb};
 ghost use lib.ListN.{length};
-ghost use Rattle.walk.specs.Walk.{bit, signs, times};
+ghost use Rattle.walk.specs.Walk.{signs, times};
 ghost use Rattle.walk_models.specs.Owned.{cellsOfRow, cellsOfLayer};
 ghost use Rattle.walk_models.specs.Lent.{untouched};
 ghost use Rattle.walk_models.specs.CacheMemory.{clearRow};
@@ -87,14 +87,6 @@ fn one_cell(
     }
 }
 
-// The class of the cell x, from that of the row's cells but the first.
-fn class_at(class: usize, x: usize) -> usize
-    requires { ⌜ class ≤ 6 ⌝ }
-    ensures { λ r. ⌜ ((y z : ℕ) → class ≡ classOf 1 y z → r ≡ classOf x y z) ⌝ }
-{
-    if x == 0 { class + 1 } else { class }
-}
-
 // The cells of word k of row y that the mask has a bit for, from the lowest.
 fn word_cells(
     numbering: u32,
@@ -133,7 +125,7 @@ fn word_cells(
         i += skipped;
         let x = 32 * k + (i as usize);
         let case = sign_words::case_of(quad, i);
-        let here = class_at(class, x);
+        let here = joined_edges::class_at(class, x);
         reached = one_cell(
             numbering,
             rows,
@@ -157,19 +149,6 @@ fn word_cells(
         i += 1;
     }
     reached
-}
-
-fn is_zero(number: usize) -> usize
-    ensures { λ r. ⌜ (r ≡ bit (eqb number 0)) × (r ≤ 1) ⌝ }
-{
-    if number == 0 { 1 } else { 0 }
-}
-
-// The class of the cells of a row but the first.
-fn class_of_row(y: usize, z: usize) -> usize
-    ensures { λ r. ⌜ (r ≡ classOf 1 y z) × (r ≤ 6) ⌝ }
-{
-    2 * is_zero(y) + 4 * is_zero(z)
 }
 
 // Row y of layer z, between the sign words of the sample layers z and z + 1.
@@ -199,7 +178,10 @@ fn row_cells(
         ≡ cellsOfRow (cellStep numbering n (now (samples .entry))) n z y (n - 1) (inHand (now (work .entry)) (now (vertices .entry)) (now (indices .entry)) counts) ⌝ }
     ensures { λ r. ⌜ (r .written ≤ counts .written + 1920) × (r .made ≤ r .written) ⌝ }
 {
-    let class = class_of_row(y, z);
+    if sign_words::outside(low, high, y) {
+        return counts;
+    }
+    let class = joined_edges::class_of_row(y, z);
     let mut reached = counts;
     let mut k: usize = 0;
     while 32 * k < n - 1 {

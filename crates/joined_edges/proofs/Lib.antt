@@ -2,3 +2,4 @@ pub mod TwelveSlots
 pub mod PackedSteps
 pub mod NewEdges
 pub mod CellWords
+pub mod Classes

@@ -3,9 +3,10 @@
 ghost use mathlib.Core.Path.{_≡_};
 ghost use mathlib.Core.List.{List};
 ghost use Prim.Native.Nat.{ℕ, _+_, _*_, _^_, _≤_, _<_};
+ghost use lib.Dec.{eqb};
 ghost use lib.ListN.{length, getD};
 ghost use lib.Ieee.{Float};
-ghost use Rattle.walk.specs.Walk.{Visit, Inside, signs};
+ghost use Rattle.walk.specs.Walk.{Visit, Inside, bit, signs};
 ghost use Rattle.walk_models.specs.Owned.{makeEdge, nameEdge, ownedCell, countCell};
 ghost use Rattle.packed_tables.specs.Unpacked.{unpacked, Edges};
 ghost use Rattle.packed_tables.specs.Packed.{rowWords, newWords};
@@ -193,4 +194,25 @@ pub fn joined_counts(
         made: counts.made + ((fresh >> 60) as u32),
         written: counts.written + 3 * ((row >> 60) as u32),
     }
+}
+
+fn is_zero(number: usize) -> usize
+    ensures { λ r. ⌜ (r ≡ bit (eqb number 0)) × (r ≤ 1) ⌝ }
+{
+    if number == 0 { 1 } else { 0 }
+}
+
+// The class of the cells of a row but the first.
+pub fn class_of_row(y: usize, z: usize) -> usize
+    ensures { λ r. ⌜ (r ≡ classOf 1 y z) × (r ≤ 6) ⌝ }
+{
+    2 * is_zero(y) + 4 * is_zero(z)
+}
+
+// The class of the cell x, from that of the row's cells but the first.
+pub fn class_at(class: usize, x: usize) -> usize
+    requires { ⌜ class ≤ 6 ⌝ }
+    ensures { λ r. ⌜ ((y z : ℕ) → class ≡ classOf 1 y z → r ≡ classOf x y z) ⌝ }
+{
+    if x == 0 { class + 1 } else { class }
 }

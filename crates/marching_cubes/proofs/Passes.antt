@@ -1,15 +1,20 @@
 -- The two passes of `meshed`: what the walk over no room counts, and what the walk over the outputs leaves.
 use mathlib.Core.Path.{_≡_, refl, sym, ap, _∙_}
-use mathlib.Core.List.{List, [], _++_, map}
+use mathlib.Core.List.{List, [], _∷_, _++_, map}
 use Prim.Native.Nat.{ℕ, _+_, _*_, _≤_, _<_}
 use native.Mathlib.Nat.{zero-add}
 use native.Mathlib.Omega.{arith}
 use lib.ListN.{length, getD, drop, replicate, length-replicate, getD-replicate, length-map, length-append, length-drop, List·getD-append}
 use lib.Seq.{sets, sets-eq, drop-append-seam}
 use lib.Ieee.{Float}
+use borrow.Author.Tests.{ne-eqb}
 use Rattle.walk_models.specs.Lent.{untouched}
-use Rattle.lent_mesh.specs.Grid.{positionAt, floatsOf}
+use Rattle.walk_models.specs.Owned.{Count, countCell, cellsOfGrid}
+use Rattle.walk_models.proofs.JoinedCells.{count-cells}
+use Rattle.lent_mesh.specs.declared.Counts.{Counts}
+use Rattle.lent_mesh.specs.Grid.{insideOf, positionAt, floatsOf}
 use Rattle.lent_mesh.proofs.Floats.{floatsOf-length, stored-floats}
+use Rattle.joined_edges.specs.OneCell.{countOf}
 use Rattle.grid_walk.specs.Steps.{Hand, walkSteps}
 use Rattle.marching_cubes.specs.Outcome.{workRoom, Surface, surfaceOf, over}
 use Rattle.marching_cubes.proofs.Left.{LeftOf, walkSteps-left}
@@ -78,3 +83,24 @@ cleared-again k work first second e f = f ∙ cleared-same k first work (ap (dro
 -- what `fill` is told of the memory that `count` leaves
 pub cleared-zeros : (k : ℕ) (work first : List ℕ) → first ≡ cleared k work → (i : ℕ) → i < k → getD first i 0 ≡ 0
 cleared-zeros k work first e i h = ap (λ (l : List ℕ). getD l i 0) e ∙ cleared-at k work i h
+
+-- ---- the joined count by table
+pub counted-joined : (n numbering : ℕ) (samples : List Float) (r : Counts) → (numbering ≡ 0 → ⊥)
+    → countOf r ≡ cellsOfGrid (countCell (insideOf n samples)) n n (record { made = 0; written = 0 })
+    → (r .made ≡ length (surfaceOf n numbering samples .made)) × (r .written ≡ length (surfaceOf n numbering samples .indices))
+unfolding surfaceOf
+counted-joined n numbering samples r other e =
+    let all = e ∙ count-cells (insideOf n samples) n n in
+    rw (ne-eqb numbering 0 other) (ap (λ (t : Count). t .made) all, ap (λ (t : Count). t .written) all)
+
+-- ---- a grid without a surface: nothing is written, and there was nothing to write
+
+pub over-none : {A : Type 0} (new old : List A) → length new ≡ 0 → old ≡ over new old
+over-none [] old e = refl
+over-none (a ∷ new) old e = absurd (omega arith)
+
+pub over-no-floats : (n : ℕ) (samples : List Float) (s : Surface) (vertices : List Float) → length (s .made) ≡ 0
+    → vertices ≡ over (floatsOf (map (positionAt n samples) (s .made))) vertices
+over-no-floats n samples s vertices e =
+    over-none (floatsOf (map (positionAt n samples) (s .made))) vertices
+    (floatsOf-length (map (positionAt n samples) (s .made)) ∙ ap (λ (k : ℕ). 3 * k) (length-map (s .made) (positionAt n samples) ∙ e))

@@ -61,7 +61,7 @@ fn work_room(n: usize) -> usize
 
 // How many vertices and indices the grid has: the walk over no room. The working memory that the size
 // asks for is zero afterwards, whatever it held.
-fn count(numbering: u32, samples: &[f32], n: usize, work: &mut [u32]) -> Counts
+fn count_by_walk(numbering: u32, samples: &[f32], n: usize, work: &mut [u32]) -> Counts
     requires { ⌜ Accepted n (now samples) (now work) ⌝ }
     ensures { λ r. ⌜ now (work .exit) ≡ over (replicate (workRoom n) 0) (now (work .entry)) ⌝ }
     ensures { λ r. ⌜ (r .made ≡ length (surfaceOf n numbering (now (samples .entry)) .made)) × (r .written ≡ length (surfaceOf n numbering (now (samples .entry)) .indices)) ⌝ }
@@ -74,6 +74,21 @@ fn count(numbering: u32, samples: &[f32], n: usize, work: &mut [u32]) -> Counts
     let counts = grid_walk::walk(numbering, samples, n, work, &mut no_floats, &mut no_words);
     clear(work, room);
     counts
+}
+
+// How many vertices and indices the grid has, and the working memory as `count_by_walk` leaves it. The
+// joined numbering needs no working memory for its count.
+fn count(numbering: u32, samples: &[f32], n: usize, work: &mut [u32]) -> Counts
+    requires { ⌜ Accepted n (now samples) (now work) ⌝ }
+    ensures { λ r. ⌜ now (work .exit) ≡ over (replicate (workRoom n) 0) (now (work .entry)) ⌝ }
+    ensures { λ r. ⌜ (r .made ≡ length (surfaceOf n numbering (now (samples .entry)) .made)) × (r .written ≡ length (surfaceOf n numbering (now (samples .entry)) .indices)) ⌝ }
+    ensures { λ r. ⌜ (r .written ≤ 31211520) × (r .made ≤ r .written) ⌝ }
+{
+    if numbering == 0 {
+        return count_by_walk(numbering, samples, n, work);
+    }
+    clear(work, work_room(n));
+    grid_count::count_joined(samples, n)
 }
 
 // The mesh is written, where there is room for it and the working memory is zero.
@@ -116,6 +131,9 @@ fn meshed(
     }
     if indices.len() < counts.written as usize {
         return counted(7, counts);
+    }
+    if counts.written == 0 {
+        return counted(0, counts);
     }
     fill(numbering, samples, n, work, vertices, indices);
     counted(0, counts)

@@ -23,7 +23,7 @@ mixed-none g x y z h =
     ⊎-elim (λ (e : eqb s 0 ≡ true). cellEdges-outside g x y z (eqb-true s 0 e)) (λ (e : eqb s 255 ≡ true). cellEdges-inside g x y z (eqb-true s 255 e))
     (or-split (eqb s 0) (eqb s 255) (not-false (eqb s 0 || eqb s 255) h))
 
-bit-none : (b : Bool) → bit b ≡ 0 → b ≡ false
+pub bit-none : (b : Bool) → bit b ≡ 0 → b ≡ false
 bit-none true e = absurd (omega arith)
 bit-none false e = refl
 

@@ -6,3 +6,5 @@ pub mod QuadBits
 pub mod RowEnd
 pub mod ActiveCells
 pub mod SetBits
+pub mod OutsideRows
+pub mod Turns

@@ -109,3 +109,7 @@ row-start n y z h =
     let one : 1 ≤ n = omega arith in
     let b : (z * n + y) * 1 ≤ (z * n + y) * n = mul-le-mul-left (z * n + y) one in
     omega arith
+
+-- the first planes of a whole grid
+pub planes-le : (n planes samples : ℕ) → planes ≤ n + 1 → n * n * (n + 1) ≤ samples → n * n * planes ≤ samples
+planes-le n planes samples h l = le-trans (mul-le-mul-left (n * n) h) l

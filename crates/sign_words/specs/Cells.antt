@@ -1,11 +1,11 @@
 -- What the sign words of four rows say of the cells between them: the rows y and y + 1 of the sample layers z and z + 1. A private model, as Words.antt.
-use mathlib.Core.Bool.{Bool, not, _||_}
+use mathlib.Core.Bool.{Bool, true, not, _||_}
 use mathlib.Core.Path.{_≡_}
-use mathlib.Core.List.{List}
+use mathlib.Core.List.{List, []}
 use Prim.Native.Nat.{ℕ, _+_, _-_, _*_, _≤_, _<_, min}
 use lib.Dec.{eqb}
 use lib.Ieee.{Float}
-use Rattle.walk.specs.Walk.{Inside, signs}
+use Rattle.walk.specs.Walk.{Inside, signs, cellEdges}
 use Rattle.lent_mesh.specs.Grid.{insideOf}
 use Rattle.sign_words.specs.declared.Quad.{Quad}
 use Rattle.sign_words.specs.Words.{wordOf, insideRow, LayerWords}
@@ -53,3 +53,9 @@ ActiveFrom q n k r = (samples : List Float) (y z : ℕ) → QuadOf n samples y z
 abbrev pub CaseFrom : Quad → ℕ → ℕ → Type 0
 CaseFrom q i r =
     (n : ℕ) (samples : List Float) (y z k : ℕ) → QuadOf n samples y z k q → i < cellsIn n k → r ≡ signs (insideOf n samples) (32 * k + i) y z
+
+-- where r is true, no cell of row y visits anything
+abbrev pub OutsideFrom : List ℕ → List ℕ → ℕ → Bool → Type 0
+OutsideFrom low high y r =
+    r ≡ true → (n : ℕ) (samples : List Float) (z : ℕ) → LayerWords n samples z low → LayerWords n samples (z + 1) high → n ≤ 128 → y + 1 < n
+    → (x : ℕ) → x + 1 < n → cellEdges (insideOf n samples) x y z ≡ []

@@ -6,7 +6,7 @@ ghost use Prim.Native.Nat.{ℕ, _+_, _*_, _^_, _%_, _≤_, _<_};
 ghost use lib.ListN.{length, getD};
 ghost use Rattle.marching_cubes_impl.specs.Sample.{inside};
 ghost use Rattle.sign_words.specs.Words.{signWord, wordFrom, LayerWords, RowFilled};
-ghost use Rattle.sign_words.specs.Cells.{LongWordFrom, QuadFrom, cellsIn, ActiveFrom, CaseFrom};
+ghost use Rattle.sign_words.specs.Cells.{LongWordFrom, QuadFrom, cellsIn, ActiveFrom, CaseFrom, OutsideFrom};
 
 // The sign of a sample. A NaN is outside.
 fn is_inside(sample: f32) -> bool
@@ -161,4 +161,20 @@ pub fn case_of(q: Quad, i: u32) -> usize
     let c = (q.c >> i) % 4;
     let d = (q.d >> i) % 4;
     (a + 4 * (b / 2) + 8 * (b % 2) + 16 * c + 64 * (d / 2) + 128 * (d % 2)) as usize
+}
+
+// Whether the rows y and y + 1 of both layers are outside throughout: no cell between them visits
+// anything. The count is written out, so that the loop can take several words at a time.
+pub fn outside(low: &[u32; 512], high: &[u32; 512], y: usize) -> bool
+    requires { ⌜ y < 127 ⌝ }
+    ensures { λ r. ⌜ OutsideFrom (now (low .entry)) (now (high .entry)) y r ⌝ }
+{
+    let mut some: u32 = 0;
+    let mut i: usize = 0;
+    while i < 8 {
+        let at = 4 * y + i;
+        some = some | low[at] | high[at];
+        i += 1;
+    }
+    some == 0
 }

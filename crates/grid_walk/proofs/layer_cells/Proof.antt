@@ -7,14 +7,16 @@ use lib.ListN.{length}
 use borrow.Author.Needs.{needs}
 use Rattle.walk_models.specs.Owned.{cellsOfRow, cellsOfLayer}
 use Rattle.lent_mesh.specs.Stored.{inHand}
+use Rattle.sign_words.proofs.Turns.{Reached, reached-none, reached-next, reached-all}
 use Rattle.grid_walk.specs.Steps.{rowParity, cellStep}
-use Rattle.grid_walk.proofs.Loops.{Reached, reached-none, reached-next, reached-all, parity-next}
+use Rattle.grid_walk.proofs.WordLoop.{handCount}
+use Rattle.grid_walk.proofs.Layers.{parity-next}
 use Rattle.grid_walk.proofs.layer_cells.Statement.{statement}
 use Rattle.grid_walk.proofs.layer_cells.Tie as tie
 
 abbrev Inv-loop : tie.InvT-loop
 Inv-loop numbering rows news coordinates low high samples n z parity work₀ vertices₀ indices₀ slots reached₀ row₀ y₀ work vertices indices reached row y =
-    Reached (λ j t. cellsOfRow (cellStep numbering n samples) n z j (n - 1) t) (inHand work₀ vertices₀ indices₀ reached₀) (inHand work vertices indices reached) y (1920 * y)
+    Reached handCount (λ j t. cellsOfRow (cellStep numbering n samples) n z j (n - 1) t) (inHand work₀ vertices₀ indices₀ reached₀) (inHand work vertices indices reached) y (1920 * y)
     × (y ≤ n - 1) × (row ≡ rowParity n z y) × (length work ≡ length work₀) × (length vertices ≡ length vertices₀) × (length indices ≡ length indices₀)
 
 abbrev μ-loop : tie.MeasureT-loop
@@ -27,7 +29,7 @@ slots-requires c κs = c .before .before .before .before .pre .1 .0 .0 .most
 loop-holds : tie.Need-loop-holds Inv-loop μ-loop
 loop-holds c =
     let start = c .before .before .before .before .before in
-    (reached-none _ _ 1920 (start .pre .1 .1 .1 .ordered), omega arith, start .pre .1 .0 .1, refl, refl, refl)
+    (reached-none _ _ _ 1920 (start .pre .1 .1 .1 .ordered), omega arith, start .pre .1 .0 .1, refl, refl, refl)
 
 sub-loop : tie.Need-sub-loop Inv-loop μ-loop
 sub-loop c = let least = c .before .before .before .before .before .before .pre .1 .0 .0 .least in omega arith
@@ -71,7 +73,7 @@ loop-again c =
     let called = c .before .before .before .before .before .before in
     let turn = called .before .before .before .before .before in
     let parity = parity-next _ _ (turn .before .loop .inv .2) in (
-      reached-next _ _ 1920 _ _ _ (turn .before .loop .inv .0) (called .row-cells .ensures .0) (called .row-cells .ensures .1 .0) (called .row-cells .ensures .1 .1),
+      reached-next _ _ _ 1920 _ _ _ (turn .before .loop .inv .0) (called .row-cells .ensures .0) (called .row-cells .ensures .1 .0) (called .row-cells .ensures .1 .1),
       omega arith,
       parity ∙ ap (λ (k : ℕ). k % 2) (add-assoc _ _ 1),
       search needs,
@@ -96,7 +98,7 @@ returns c =
     let at = c .before .loop .inv .0 in
     let grown = at .grown in
     let all : c .before .loop .y ≡ start .args .n - 1 = omega arith in
-    (reached-all _ _ _ _ _ _ all at, (omega arith, at .ordered))
+    (reached-all _ _ _ _ _ _ _ all at, (omega arith, at .ordered))
 
 pub layer-cells-spec : {M : Type 1} → statement M
 layer-cells-spec =

@@ -1,4 +1,4 @@
--- `row_cells`: word after word, so many cells of the row are done.
+-- `row_cells`: a row that is outside throughout is passed over; of another, word after word, so many cells are done.
 use mathlib.Core.Path.{_≡_, refl}
 use Prim.Native.Nat.{ℕ, _+_, _-_, _*_, _≤_, _<_, min}
 use native.Mathlib.Omega.{arith}
@@ -6,44 +6,60 @@ use lib.ListN.{length}
 use borrow.Author.Needs.{needs}
 use Rattle.walk_models.specs.Owned.{cellsOfRow}
 use Rattle.lent_mesh.specs.Stored.{inHand}
+use Rattle.sign_words.proofs.Turns.{Reached, reached-no-word, reached-word, reached-row}
 use Rattle.grid_walk.specs.Steps.{cellStep}
-use Rattle.grid_walk.proofs.Loops.{Reached, reached-no-word, reached-word, reached-row}
+use Rattle.grid_walk.proofs.WordLoop.{handCount, row-idle}
 use Rattle.grid_walk.proofs.row_cells.Statement.{statement}
 use Rattle.grid_walk.proofs.row_cells.Tie as tie
 
 abbrev Inv-loop : tie.InvT-loop
 Inv-loop numbering rows news coordinates slots low high samples n y z row work₀ vertices₀ indices₀ class reached₀ k₀ work vertices indices reached k =
-    Reached (λ x t. cellStep numbering n samples z y x t) (inHand work₀ vertices₀ indices₀ reached₀) (inHand work vertices indices reached) (min (32 * k) (n - 1)) (480 * k)
+    Reached handCount (λ x t. cellStep numbering n samples z y x t) (inHand work₀ vertices₀ indices₀ reached₀) (inHand work vertices indices reached) (min (32 * k) (n - 1)) (480 * k)
     × (k ≤ 4) × (length work ≡ length work₀) × (length vertices ≡ length vertices₀) × (length indices ≡ length indices₀)
 
 abbrev μ-loop : tie.MeasureT-loop
 μ-loop numbering rows news coordinates slots low high samples n y z row work₀ vertices₀ indices₀ class reached₀ k₀ work vertices indices reached k =
     n - 1 - 32 * k
 
+outside-requires : tie.Need-outside-requires Inv-loop μ-loop
+outside-requires c κs =
+    let row = c .before .before .before .before .pre .1 .0 .0 in
+    let most = row .layer .most in
+    let in-y = row .in-y in
+    omega arith
+
+returns : tie.Need-returns Inv-loop μ-loop
+returns c =
+    let start = c .before .before .before .before .before .before in
+    let pre = start .pre .1 in
+    let row = pre .0 .0 in
+    let none = c .before .outside .ensures (c .if1 .taken) (start .args .n) (start .args .samples .now) (start .args .z) (pre .1 .0 .0) (pre .1 .0 .1) (row .layer .most) (row .in-y) in
+    (row-idle (start .args .numbering) (start .args .n) (start .args .samples .now) (start .args .z) (start .args .y) _ none, (omega arith, pre .1 .1 .ordered))
+
 class-of-row-requires : tie.Need-class-of-row-requires Inv-loop μ-loop
 class-of-row-requires c κs = search needs
 
 loop-holds : tie.Need-loop-holds Inv-loop μ-loop
 loop-holds c =
-    let start = c .before .before .before .before .before in
-    (reached-no-word _ _ (start .args .n) (start .pre .1 .1 .1 .ordered), omega arith, refl, refl, refl)
+    let start = c .before .before .before .before .before .before .before in
+    (reached-no-word _ _ _ (start .args .n) (start .pre .1 .1 .1 .ordered), omega arith, refl, refl, refl)
 
 mul-loop : tie.Need-mul-loop Inv-loop μ-loop
 mul-loop c = search needs
 
 sub-loop : tie.Need-sub-loop Inv-loop μ-loop
-sub-loop c = let least = c .before .before .before .before .before .before .pre .1 .0 .0 .layer .least in omega arith
+sub-loop c = let least = c .before .before .before .before .before .before .before .before .pre .1 .0 .0 .layer .least in omega arith
 
 quad-at-requires : tie.Need-quad-at-requires Inv-loop μ-loop
 quad-at-requires c κs =
-    let row = c .before .before .before .before .before .before .before .pre .1 .0 .0 in
+    let row = c .before .before .before .before .before .before .before .before .before .pre .1 .0 .0 in
     let most = row .layer .most in
     let in-y = row .in-y in
     (omega arith, omega arith)
 
 active-requires : tie.Need-active-requires Inv-loop μ-loop
 active-requires c κs =
-    let layer = c .before .before .before .before .before .before .before .before .pre .1 .0 .0 .layer in
+    let layer = c .before .before .before .before .before .before .before .before .before .before .pre .1 .0 .0 .layer in
     let most = layer .most in
     (layer .least, most, omega arith)
 
@@ -51,7 +67,7 @@ word-cells-requires : tie.Need-word-cells-requires Inv-loop μ-loop
 word-cells-requires c κs =
     let turn = c .before .before .before .before .before in
     let classed = turn .before .before in
-    let start = classed .before .before .before .before .before in
+    let start = classed .before .before .before .before .before .before .before in
     let pre = start .pre in
     let row = pre .1 .0 .0 in
     let most = row .layer .most in
@@ -84,9 +100,9 @@ loop-again : tie.Need-loop-again Inv-loop μ-loop
 loop-again c =
     let called = c .before .before .before .before .before .before in
     let turn = called .before .before .before .before .before .before in
-    let most = turn .before .before .before .before .before .before .before .pre .1 .0 .0 .layer .most in
-    let more : 32 * turn .before .loop .k < turn .before .before .before .before .before .before .before .args .n - 1 = omega arith in
-    (reached-word _ _ _ _ _ _ more (turn .before .loop .inv .0) (called .word-cells .ensures .0) (called .word-cells .ensures .1 .0) (called .word-cells .ensures .1 .1), omega arith, search needs, search needs, search needs)
+    let most = turn .before .before .before .before .before .before .before .before .before .pre .1 .0 .0 .layer .most in
+    let more : 32 * turn .before .loop .k < turn .before .before .before .before .before .before .before .before .before .args .n - 1 = omega arith in
+    (reached-word _ _ _ _ _ _ _ more (turn .before .loop .inv .0) (called .word-cells .ensures .0) (called .word-cells .ensures .1 .0) (called .word-cells .ensures .1 .1), omega arith, search needs, search needs, search needs)
 
 same-length : tie.Need-same-length Inv-loop μ-loop
 same-length c = search needs
@@ -97,14 +113,14 @@ same-length-2 c = search needs
 same-length-3 : tie.Need-same-length-3 Inv-loop μ-loop
 same-length-3 c = search needs
 
-returns : tie.Need-returns Inv-loop μ-loop
+returns-2 : tie.Need-returns-2 Inv-loop μ-loop
 unfolding cellsOfRow
-returns c =
-    let start = c .before .before .before .before .before .before .before in
+returns-2 c =
+    let start = c .before .before .before .before .before .before .before .before .before in
     let most = start .pre .1 .0 .0 .layer .most in
     let at = c .before .loop .inv .0 in
     let grown = at .grown in
-    (reached-row _ _ _ _ _ (omega arith) at, (omega arith, at .ordered))
+    (reached-row _ _ _ _ _ _ (omega arith) at, (omega arith, at .ordered))
 
 pub row-cells-spec : {M : Type 1} → statement M
 row-cells-spec =
@@ -112,6 +128,8 @@ row-cells-spec =
     (tie.spec
     Inv-loop
     μ-loop
+    outside-requires
+    returns
     class-of-row-requires
     loop-holds
     mul-loop
@@ -125,4 +143,4 @@ row-cells-spec =
     same-length
     same-length-2
     same-length-3
-    returns)
+    returns-2)

@@ -8,16 +8,18 @@ use borrow.Author.Needs.{needs}
 use Rattle.walk_models.specs.Owned.{cellsOfLayer}
 use Rattle.lent_mesh.specs.Stored.{inHand}
 use Rattle.sign_words.specs.Words.{LayerWords}
+use Rattle.sign_words.proofs.RowWords.{planes-le}
+use Rattle.sign_words.proofs.Turns.{Reached, reached-none, reached-next, reached-all}
 use Rattle.grid_walk.specs.Steps.{rowParity, cellStep, layerStep, walkSteps}
 use Rattle.grid_walk.proofs.OneCell.{parity-le}
-use Rattle.grid_walk.proofs.Loops.{Reached, reached-none, reached-next, reached-all}
-use Rattle.grid_walk.proofs.Layers.{planes-le, parity-layer, layer-of, layer-done}
+use Rattle.grid_walk.proofs.WordLoop.{handCount}
+use Rattle.grid_walk.proofs.Layers.{parity-layer, layer-of, layer-done}
 use Rattle.grid_walk.proofs.walk.Statement.{statement}
 use Rattle.grid_walk.proofs.walk.Tie as tie
 
 abbrev Inv-loop : tie.InvT-loop
 Inv-loop numbering samples n work₀ vertices₀ indices₀ rows news coordinates low₀ high₀ reached₀ row₀ z₀ work vertices indices low high reached row z =
-    Reached (λ j t. layerStep numbering n samples j (cellsOfLayer (cellStep numbering n samples) n j (n - 1) t)) (inHand work₀ vertices₀ indices₀ reached₀) (inHand work vertices indices reached) z (243840 * z)
+    Reached handCount (λ j t. layerStep numbering n samples j (cellsOfLayer (cellStep numbering n samples) n j (n - 1) t)) (inHand work₀ vertices₀ indices₀ reached₀) (inHand work vertices indices reached) z (243840 * z)
     × (z ≤ n) × (row ≡ rowParity n z 0) × LayerWords n samples z low × (length work ≡ length work₀) × (length vertices ≡ length vertices₀) × (length indices ≡ length indices₀)
 
 abbrev μ-loop : tie.MeasureT-loop
@@ -39,7 +41,7 @@ fill-layer-requires c κs =
     (pre .0, pre .1, planes-le _ 1 _ (omega arith) (pre .2))
 
 loop-holds : tie.Need-loop-holds Inv-loop μ-loop
-loop-holds c = (reached-none _ _ 243840 (omega arith), omega arith, ap (λ (k : ℕ). (k + 0) % 2) (sym (zero-mul _)), c .fill-layer .ensures, refl, refl, refl)
+loop-holds c = (reached-none _ _ _ 243840 (omega arith), omega arith, ap (λ (k : ℕ). (k + 0) % 2) (sym (zero-mul _)), c .fill-layer .ensures, refl, refl, refl)
 
 add-fill-layer : tie.Need-add-fill-layer Inv-loop μ-loop
 add-fill-layer c = let most = c .before .before .before .before .before .before .before .before .before .before .before .pre .1 in omega arith
@@ -96,7 +98,7 @@ loop-again c =
     let turn = c .before .before .before .before .before .before .before .before .before .before .before .before .before .before .before .before .before .before .before .before .before in
     let at = turn .before .loop .inv in
     let parity = parity-layer _ _ _ (at .2) in (
-      reached-next _ _ 243840 _ _ _ (at .0) (layer-done _ _ _ _ _ _ _ _ _ _ _ parity (called .layer-cells .ensures .0) (ended .end-layer .ensures)) (called .layer-cells .ensures .1 .0) (called .layer-cells .ensures .1 .1),
+      reached-next _ _ _ 243840 _ _ _ (at .0) (layer-done _ _ _ _ _ _ _ _ _ _ _ parity (called .layer-cells .ensures .0) (ended .end-layer .ensures)) (called .layer-cells .ensures .1 .0) (called .layer-cells .ensures .1 .1),
       omega arith,
       parity,
       c .before .before .before .before .before .before .before .before .before .before .before .before .before .before .before .before .before .before .before .fill-layer2 .ensures,
@@ -122,7 +124,7 @@ returns c =
     let at = c .before .loop .inv .0 in
     let grown = at .grown in
     let all : c .before .loop .z ≡ start .args .n = omega arith in
-    (reached-all _ _ _ _ _ _ all at, (omega arith, at .ordered))
+    (reached-all _ _ _ _ _ _ _ all at, (omega arith, at .ordered))
 
 pub walk-spec : {M : Type 1} → statement M
 walk-spec =

@@ -8,14 +8,15 @@ use borrow.Author.Needs.{needs}
 use Rattle.lent_mesh.specs.Stored.{inHand}
 use Rattle.sign_words.specs.Cells.{cellsIn}
 use Rattle.sign_words.proofs.SetBits.{left-less}
+use Rattle.sign_words.proofs.Turns.{at-first}
 use Rattle.grid_walk.proofs.OneCell.{cell-of-row}
-use Rattle.grid_walk.proofs.WordLoop.{AtBit, at-first, found-cell, at-next, at-last}
+use Rattle.grid_walk.proofs.WordLoop.{Walked, walked-found, walked-next, walked-last}
 use Rattle.grid_walk.proofs.word_cells.Statement.{statement}
 use Rattle.grid_walk.proofs.word_cells.Tie as tie
 
 abbrev Inv-loop : tie.InvT-loop
 Inv-loop numbering rows news coordinates slots samples n y z k quad mask class row work₀ vertices₀ indices₀ reached₀ rest₀ i₀ work vertices indices reached rest i =
-    AtBit numbering n samples z y k (inHand work₀ vertices₀ indices₀ reached₀) (inHand work vertices indices reached) mask rest i × (length work ≡ length work₀) × (length vertices ≡ length vertices₀) × (length indices ≡ length indices₀)
+    Walked numbering n samples z y k (inHand work₀ vertices₀ indices₀ reached₀) (inHand work vertices indices reached) mask rest i × (length work ≡ length work₀) × (length vertices ≡ length vertices₀) × (length indices ≡ length indices₀)
 
 abbrev μ-loop : tie.MeasureT-loop
 μ-loop numbering rows news coordinates slots samples n y z k quad mask class row work₀ vertices₀ indices₀ reached₀ rest₀ i₀ work vertices indices reached rest i =
@@ -29,7 +30,7 @@ found : (c : tie.In-loop Inv-loop μ-loop)
 found c =
     let start = c .before .before .before .before .before .before in
     let some : 0 < c .before .loop .rest = omega arith in
-    found-cell _ _ _ _ _ _ _ _ _ _ _ (c .before .loop .inv .0) (start .pre .1 .1 .0 .1) some
+    walked-found _ _ _ _ _ _ _ _ _ _ _ (c .before .loop .inv .0) (start .pre .1 .1 .0 .1) some
 
 -- it lies in the row, and in the row there are at most 127 cells
 found-in-row : (c : tie.In-loop Inv-loop μ-loop)
@@ -44,7 +45,7 @@ found-in-row c =
 loop-holds : tie.Need-loop-holds Inv-loop μ-loop
 loop-holds c =
     let start = c .before .before .before .before in
-    (at-first _ _ _ _ _ _ _ _ (start .pre .1 .1 .1 .1 .ordered), refl, refl, refl)
+    (at-first _ _ _ _ _ (start .pre .1 .1 .1 .1 .ordered), refl, refl, refl)
 
 add-i : tie.Need-add-i Inv-loop μ-loop
 add-i c = omega (arith, found c .1)
@@ -104,7 +105,7 @@ loop-again c =
     let turn = called .before .before .before .before .before .before in
     let start = turn .before .before .before .before .before .before in
     let some : 0 < turn .before .loop .rest = omega arith in
-    (at-next _ _ _ _ _ _ _ _ _ _ _ (turn .before .loop .inv .0) (start .pre .1 .1 .0 .1) _ some (called .one-cell .ensures .0) (called .one-cell .ensures .1 .0) (called .one-cell .ensures .1 .1), search needs, search needs, search needs)
+    (walked-next _ _ _ _ _ _ _ _ _ _ _ (turn .before .loop .inv .0) (start .pre .1 .1 .0 .1) _ some (called .one-cell .ensures .0) (called .one-cell .ensures .1 .0) (called .one-cell .ensures .1 .1), search needs, search needs, search needs)
 
 same-length : tie.Need-same-length Inv-loop μ-loop
 same-length c = search needs
@@ -122,7 +123,7 @@ returns c =
     let grown = at .grown in
     let within = at .within in
     let none : c .before .loop .rest ≡ 0 = omega arith in
-    (at-last _ _ _ _ _ _ _ _ _ _ _ at (start .pre .1 .1 .0 .1) none, (omega arith, at .ordered))
+    (walked-last _ _ _ _ _ _ _ _ _ _ _ at (start .pre .1 .1 .0 .1) none, (omega arith, at .ordered))
 
 pub word-cells-spec : {M : Type 1} → statement M
 word-cells-spec =

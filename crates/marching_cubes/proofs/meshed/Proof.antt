@@ -1,10 +1,12 @@
 -- `meshed`: the causes of an accepted grid, from what `count` and `fill` promise.
 use mathlib.Core.Path.{_≡_, sym, _∙_}
+use Prim.Native.Nat.{ℕ}
 use native.Mathlib.Omega.{arith}
+use lib.ListN.{length}
 use borrow.Author.Needs.{needs}
-use Rattle.marching_cubes.specs.Outcome.{workRoom}
+use Rattle.marching_cubes.specs.Outcome.{workRoom, surfaceOf}
 use Rattle.marching_cubes.proofs.ByCause.{vertices-left, indices-left, done-left}
-use Rattle.marching_cubes.proofs.Passes.{cleared-again, cleared-zeros}
+use Rattle.marching_cubes.proofs.Passes.{cleared-again, cleared-zeros, over-none, over-no-floats}
 use Rattle.marching_cubes.proofs.meshed.Statement.{statement}
 use Rattle.marching_cubes.proofs.meshed.Tie as tie
 
@@ -42,23 +44,40 @@ returns-2 c =
     let found = c .before .before .before .before .before .before .before .count .ensures in
     indices-left _ _ _ _ _ _ _ _ _ _ _ (found .1 .0 .0) (found .1 .0 .1) (c .counted2 .ensures) (found .0) (c .before .before .before .if1 .left) (c .before .if2 .taken)
 
-fill-requires : tie.Need-fill-requires
-fill-requires c κs =
-    let found = c .before .before .before .before .before .before .before .before .before .count .ensures in
-    let made = found .1 .0 .0 in
-    let written = found .1 .0 .1 in
-    let floats = c .before .before .before .before .before .if1 .left in
-    let words = c .before .before .before .if2 .left in
-    let pre = c .before .before .before .before .before .before .before .before .before .before .before .before .before .before .before .pre in
-    let room = pre .work-room in
-    let same = c .before .before .before .before .before .before .before .before .work .given in
-    ((record { least = pre .least; most = pre .most; samples-whole = pre .samples-whole; work-room = omega arith }, cleared-zeros (workRoom (c .before .before .before .before .before .before .before .before .before .before .before .before .before .before .before .args .n)) (c .before .before .before .before .before .before .before .before .before .before .before .before .before .before .before .args .work .now) _ (found .0)), (omega arith, omega arith))
-
 counted-requires-3 : tie.Need-counted-requires-3
 counted-requires-3 c κs = search needs
 
 same-length-3 : tie.Need-same-length-3
 same-length-3 c = search needs
+
+-- a grid without a surface
+returns-3 : tie.Need-returns-3
+returns-3 c =
+    let found = c .before .before .before .before .before .before .before .before .before .count .ensures in
+    let args = c .before .before .before .before .before .before .before .before .before .before .before .before .before .before .before .args in
+    let s = surfaceOf (args .n) (args .numbering) (args .samples .now) in
+    let none = c .before .if3 .taken in
+    let fewer = found .1 .1 .1 in
+    let made = found .1 .0 .0 in
+    let written = found .1 .0 .1 in
+    let no-vertices : length (s .made) ≡ 0 = omega arith in
+    let no-indices : length (s .indices) ≡ 0 = omega arith in
+    done-left _ _ _ _ _ _ _ _ _ _ _ _ _ made written (c .counted3 .ensures) (found .0) (over-no-floats (args .n) (args .samples .now) s (args .vertices .now) no-vertices) (over-none (s .indices) (args .indices .now) no-indices) (omega arith) (omega arith)
+
+fill-requires : tie.Need-fill-requires
+fill-requires c κs =
+    let found = c .before .before .before .before .before .before .before .before .before .before .before .count .ensures in
+    let made = found .1 .0 .0 in
+    let written = found .1 .0 .1 in
+    let floats = c .before .before .before .before .before .before .before .if1 .left in
+    let words = c .before .before .before .before .before .if2 .left in
+    let pre = c .before .before .before .before .before .before .before .before .before .before .before .before .before .before .before .before .before .pre in
+    let room = pre .work-room in
+    let same = c .before .before .before .before .before .before .before .before .before .before .work .given in
+    ((record { least = pre .least; most = pre .most; samples-whole = pre .samples-whole; work-room = omega arith }, cleared-zeros (workRoom (c .before .before .before .before .before .before .before .before .before .before .before .before .before .before .before .before .before .args .n)) (c .before .before .before .before .before .before .before .before .before .before .before .before .before .before .before .before .before .args .work .now) _ (found .0)), (omega arith, omega arith))
+
+counted-requires-4 : tie.Need-counted-requires-4
+counted-requires-4 c κs = search needs
 
 same-length-4 : tie.Need-same-length-4
 same-length-4 c = search needs
@@ -66,16 +85,19 @@ same-length-4 c = search needs
 same-length-5 : tie.Need-same-length-5
 same-length-5 c = search needs
 
-returns-3 : tie.Need-returns-3
-returns-3 c =
-    let start = c .before .before .before .before .before .before .before .before .before .before .before .before .before .before .before .before .before .before .before .before .before .before .before in
-    let found = c .before .before .before .before .before .before .before .before .before .before .before .before .before .before .before .before .before .count .ensures in
+same-length-6 : tie.Need-same-length-6
+same-length-6 c = search needs
+
+returns-4 : tie.Need-returns-4
+returns-4 c =
+    let start = c .before .before .before .before .before .before .before .before .before .before .before .before .before .before .before .before .before .before .before .before .before .before .before .before .before in
+    let found = c .before .before .before .before .before .before .before .before .before .before .before .before .before .before .before .before .before .before .before .count .ensures in
     let filled = c .before .before .before .before .before .before .before .fill .ensures in
     let made = found .1 .0 .0 in
     let written = found .1 .0 .1 in
-    let floats = c .before .before .before .before .before .before .before .before .before .before .before .before .before .if1 .left in
-    let words = c .before .before .before .before .before .before .before .before .before .before .before .if2 .left in
-    done-left _ _ _ _ _ _ _ _ _ _ _ _ _ made written (c .counted3 .ensures) (cleared-again (workRoom (start .args .n)) (start .args .work .now) _ _ (found .0) (filled .0)) (filled .1 .0) (filled .1 .1) (omega arith) (omega arith)
+    let floats = c .before .before .before .before .before .before .before .before .before .before .before .before .before .before .before .if1 .left in
+    let words = c .before .before .before .before .before .before .before .before .before .before .before .before .before .if2 .left in
+    done-left _ _ _ _ _ _ _ _ _ _ _ _ _ made written (c .counted4 .ensures) (cleared-again (workRoom (start .args .n)) (start .args .work .now) _ _ (found .0) (filled .0)) (filled .1 .0) (filled .1 .1) (omega arith) (omega arith)
 
 pub meshed-spec : {M : Type 1} → statement M
 meshed-spec =
@@ -91,9 +113,12 @@ meshed-spec =
     counted-requires-2
     same-length-2
     returns-2
-    fill-requires
     counted-requires-3
     same-length-3
+    returns-3
+    fill-requires
+    counted-requires-4
     same-length-4
     same-length-5
-    returns-3)
+    same-length-6
+    returns-4)
