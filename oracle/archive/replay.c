@@ -5,7 +5,7 @@
 #include <stdlib.h>
 #include <string.h>
 
-enum { CELL = 1, EDGE = 2, KEY = 3, RECORD = 5 };
+enum { CELL = 1, EDGE = 2, KEY = 3, EXTRACT = 4, RECORD = 5 };
 
 static FILE *in;
 static unsigned long replayed;
@@ -76,6 +76,50 @@ static void replay_key(void)
     hold("bridgeyarn_morton_difference", &word, sizeof word);
 }
 
+/* Words from the file in memory of their own, exactly as long. */
+static void *words_of(uint32_t count)
+{
+    void *words = malloc(4 * (size_t)count + 1);
+    if (words == NULL)
+        fail("no memory");
+    get(words, 4 * (size_t)count);
+    return words;
+}
+
+static void hold_words(const char *what, void *ours, uint32_t count)
+{
+    void *expected = words_of(count);
+    if (memcmp(ours, expected, 4 * (size_t)count) != 0)
+        fail(what);
+    free(expected);
+    free(ours);
+}
+
+/* All memory lent is compared whole: what is written, what is not, and the working memory. */
+static void replay_extract(void)
+{
+    uint32_t size, numbering, counts[4];
+    float *samples, *vertices;
+    uint32_t *work, *indices;
+    bridgeyarn_answer answer;
+    get(&size, sizeof size);
+    get(&numbering, sizeof numbering);
+    get(counts, sizeof counts);
+    samples = words_of(counts[0]);
+    work = words_of(counts[1]);
+    vertices = words_of(counts[2]);
+    indices = words_of(counts[3]);
+    answer = bridgeyarn_extract(size, numbering, samples, counts[0], work, counts[1], vertices, counts[2], indices, counts[3]);
+    hold("bridgeyarn_extract, cause", &answer.cause, sizeof answer.cause);
+    hold("bridgeyarn_extract, place", &answer.place, sizeof answer.place);
+    hold("bridgeyarn_extract, vertices", &answer.vertices, sizeof answer.vertices);
+    hold("bridgeyarn_extract, indices", &answer.indices, sizeof answer.indices);
+    hold_words("bridgeyarn_extract, working memory", work, counts[1]);
+    hold_words("bridgeyarn_extract, vertex buffer", vertices, counts[2]);
+    hold_words("bridgeyarn_extract, index buffer", indices, counts[3]);
+    free(samples);
+}
+
 static void replay_record(void)
 {
     uint32_t length;
@@ -107,6 +151,7 @@ int main(int count, char **words)
         case CELL: replay_cell(); break;
         case EDGE: replay_edge(); break;
         case KEY: replay_key(); break;
+        case EXTRACT: replay_extract(); break;
         case RECORD: replay_record(); break;
         default: fail("no such call");
         }

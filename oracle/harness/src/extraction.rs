@@ -8,7 +8,6 @@ use crate::isosurface::math::Vec3;
 use crate::isosurface::source::Source;
 use crate::random::Random;
 use std::cell::Cell;
-use std::collections::HashMap;
 
 #[repr(C)]
 #[derive(Clone, Copy, Debug, PartialEq)]
@@ -93,7 +92,8 @@ pub fn joined_mesh(n: usize, samples: &[f32]) -> Mesh {
     let at = |p: [usize; 3]| samples[(p[2] * n + p[1]) * n + p[0]];
     let point = |p: [usize; 3]| Vec3 { x: p[0] as f32 * h, y: p[1] as f32 * h, z: p[2] as f32 * h };
     let mut mesh = Mesh { vertices: Vec::new(), indices: Vec::new() };
-    let mut met: HashMap<[[usize; 3]; 2], u32> = HashMap::new();
+    // the vertex of each grid edge that was met: the edge is named by its lower end and its axis
+    let mut met = vec![u32::MAX; 3 * samples.len()];
     for z in 0..n {
         for y in 0..n - 1 {
             for x in 0..n - 1 {
@@ -101,13 +101,14 @@ pub fn joined_mesh(n: usize, samples: &[f32]) -> Mesh {
                 let values: [f32; 8] = std::array::from_fn(|c| at(corner(c)));
                 march_cube(&values, |e| {
                     let (u, v) = (corner(EDGE_CONNECTION[e][0]), corner(EDGE_CONNECTION[e][1]));
-                    let next = met.len() as u32;
-                    let number = *met.entry([u.min(v), u.max(v)]).or_insert(next);
-                    if number == next {
+                    let (low, axis) = (u.min(v), (0..3).find(|&a| u[a] != v[a]).unwrap());
+                    let number = &mut met[3 * ((low[2] * n + low[1]) * n + low[0]) + axis];
+                    if *number == u32::MAX {
+                        *number = mesh.vertices.len() as u32 / 3;
                         let p = interpolate(point(u), point(v), get_offset(at(u), at(v)));
                         mesh.vertices.extend([p.x, p.y, p.z]);
                     }
-                    mesh.indices.push(number);
+                    mesh.indices.push(*number);
                 });
             }
         }
@@ -181,7 +182,7 @@ pub fn compare(size: u32, numbering: u32, samples: &[f32], before: &Lent) -> Res
 }
 
 /// A call with room to spare, garbage everywhere.
-fn compare_meshed(random: &mut Random, n: usize, samples: &[f32]) -> Result<[u64; 2], String> {
+pub fn compare_meshed(random: &mut Random, n: usize, samples: &[f32]) -> Result<[u64; 2], String> {
     let mut counts = [0; 2];
     for numbering in [CRATE, JOINED] {
         let mesh = mesh_of(numbering, n, samples);
@@ -209,17 +210,17 @@ fn size_two_on_all_sign_patterns(_: u64) -> Result<String, String> {
 
 /// A grid is compared for every hundred cases asked for: it is some thousand times the work of one cell.
 fn random_grids(count: u64) -> Result<String, String> {
-    let count = (count / 100).max(2000);
     let mut random = Random::new(22);
     let mut triangles = [0; 2];
-    for _ in 0..count {
+    let grids_done = (count / 100).max(2000);
+    for _ in 0..grids_done {
         let n = 2 + random.below(15) as usize;
         let samples = if random.below(4) == 0 { grids::smooth(&mut random, n) } else { grids::random(&mut random, n) };
         let made = compare_meshed(&mut random, n, &samples)?;
         triangles[0] += made[0];
         triangles[1] += made[1];
     }
-    Ok(format!("{count} grids of sizes 2 to 16, {} triangles in either numbering", triangles[0]))
+    Ok(format!("{grids_done} grids of sizes 2 to 16, {} triangles in either numbering", triangles[0]))
 }
 
 fn large_grids(count: u64) -> Result<String, String> {

@@ -1,15 +1,20 @@
 //! Runs the library beside the unchanged Rust and stops at the first difference.
 //!
 //!     harness compare [COUNT] [NAME..]    every test, or those whose names begin with a NAME, over COUNT random cases each
+//!     harness grids COUNT [SEED]          whole extractions: COUNT small grids and one in 5,000 as many large ones, with progress
+//!     harness check RECORD..              the grids of sample records
 //!     harness replay FILE [COUNT]         requests and the Rust's answers, for the C driver of the archive
+//!     harness listings FOLDER             records for the listing program, and the text that it owes for each
 mod cell;
 mod extraction;
 mod grids;
+mod listing;
 mod morton;
 mod positions;
 mod random;
 mod record;
 mod replay;
+mod scale;
 
 pub use exposed as isosurface;
 
@@ -45,8 +50,14 @@ fn main() {
             replay::write(&words[1], number(2, 100_000)).expect("writing the replay file");
             0
         }
+        Some("grids") => scale::grids(number(1, 1_000_000), number(2, 1), "build/oracle/differs"),
+        Some("check") => scale::check(&words[1..]),
+        Some("listings") if words.len() > 1 => {
+            listing::write(&words[1]).expect("writing the records and texts");
+            0
+        }
         _ => {
-            eprintln!("usage: harness compare [COUNT] [NAME..] | harness replay FILE [COUNT]");
+            eprintln!("usage: harness compare [COUNT] [NAME..] | grids COUNT [SEED] | check RECORD.. | replay FILE [COUNT] | listings FOLDER");
             2
         }
     });

@@ -1,6 +1,8 @@
 //! Requests and the answers that they must get, for `oracle/archive/replay.c`, which replays them through the archive that users
 //! link. A record is its call's number as a little-endian u32, the arguments, then the answer: little-endian words, no gaps.
 use crate::cell;
+use crate::extraction::{self, Lent};
+use crate::grids;
 use crate::morton;
 use crate::random::Random;
 use crate::record;
@@ -10,6 +12,7 @@ use std::io::{BufWriter, Result, Write};
 const CELL: u32 = 1;
 const EDGE: u32 = 2;
 const KEY: u32 = 3;
+const EXTRACT: u32 = 4;
 const RECORD: u32 = 5;
 
 struct Replay(BufWriter<File>);
@@ -79,11 +82,58 @@ fn records(out: &mut Replay, count: u64) -> Result<()> {
     (0..2).try_for_each(|numbering| record(out, bytes.good(128, numbering)))
 }
 
+fn lent(out: &mut Replay, memory: &Lent) -> Result<()> {
+    out.words(&memory.work)?;
+    out.words(&memory.vertices.iter().map(|v| v.to_bits()).collect::<Vec<u32>>())?;
+    out.words(&memory.indices)
+}
+
+/// The lengths, the samples, all lent memory as it is before the call, the answer, and all of it as it is after.
+fn extraction(out: &mut Replay, size: u32, numbering: u32, samples: &[f32], before: &Lent) -> Result<()> {
+    let (answer, after) = extraction::expected(size, numbering, samples, before);
+    let lengths = [samples.len(), before.work.len(), before.vertices.len(), before.indices.len()].map(|k| k as u32);
+    out.words(&[EXTRACT, size, numbering])?;
+    out.words(&lengths)?;
+    out.words(&samples.iter().map(|v| v.to_bits()).collect::<Vec<u32>>())?;
+    lent(out, before)?;
+    out.words(&[answer.cause])?;
+    [answer.place, answer.vertices, answer.indices].iter().try_for_each(|w| out.0.write_all(&w.to_le_bytes()))?;
+    lent(out, &after)
+}
+
+/// Small grids in both numberings: with room to spare, one float short, one index short, and with a bad sample, size, numbering, number of
+/// samples or too little working memory.
+fn extractions(out: &mut Replay, count: u64) -> Result<()> {
+    let mut random = Random::new(14);
+    for i in 0..count {
+        let n = 2 + random.below(6) as usize;
+        let (mut size, mut numbering) = (n as u32, i as u32 % 2);
+        let mut samples = grids::random(&mut random, n);
+        let mesh = extraction::mesh_of(numbering, n, &samples);
+        let spare = random.below(3) as usize;
+        let (mut work, mut floats, mut words) = (extraction::work_room(n) + spare, mesh.vertices.len() + spare, mesh.indices.len() + spare);
+        match random.below(16) {
+            0 => size = [0, 1, 129][random.below(3) as usize],
+            1 => numbering = 2,
+            2 => samples.truncate(samples.len() - 1),
+            3 => work = extraction::work_room(n) - 1,
+            4 => samples[n] = random.any_f32(),
+            5 => floats = mesh.vertices.len().saturating_sub(1),
+            6 => words = mesh.indices.len().saturating_sub(1),
+            _ => (),
+        }
+        let before = Lent::garbage(&mut random, work, floats, words);
+        extraction(out, size, numbering, &samples, &before)?;
+    }
+    Ok(())
+}
+
 pub fn write(path: &str, count: u64) -> Result<()> {
     let mut out = Replay(BufWriter::new(File::create(path)?));
     cells(&mut out, count)?;
     edges(&mut out, count)?;
     keys(&mut out, count)?;
+    extractions(&mut out, count / 100)?;
     records(&mut out, count)?;
     out.0.flush()
 }
