@@ -1,0 +1,11 @@
+pub mod Cases
+pub mod Theorems
+pub mod Sides
+pub mod RowTest
+pub mod RowFaces
+pub mod Sums
+pub mod Squares
+pub mod VisitedSides
+pub mod IndexNames
+pub mod Triangles
+pub mod Done
