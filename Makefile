@@ -1,23 +1,18 @@
-# make demo   builds the library, meshes a sphere with it, and shows a refusal
-# make test   compares with the Rust, tests the C boundary, and proves everything; its last line is the prover's count
-# make bench  times the library beside the Rust and writes docs/BENCH.md; make bench-peers times VTK and scikit-image for it
+# make demo          builds the library and the planner, and shows a result
+# make test          compares with the Rust, tests the programs and the C boundary, and proves everything; its last line is the prover's count
+# make oracle N=..   compares that many small grids, and one in 5,000 as many large ones, with the Rust (SEED=.. for other grids)
+# make bench         times the library beside the Rust and writes docs/BENCH.md; make bench-peers times VTK and scikit-image for it
 .DELETE_ON_ERROR:
-.PHONY: demo planner test bench bench-peers setup layout names evidence mutants unchanged header oracle grids fuzz archive prove
+.PHONY: demo test bench bench-peers fuzz setup layout names evidence mutants unchanged header oracle archive listing planner prove crate-table
 
 CASES ?= 1000000
+SEED ?= 1
 HARNESS := build/oracle/release/harness
 
-demo: planner
-	tools/x86-64-cc build/demo/cases demo/cases.c
-	tools/x86-64-run build/demo/cases
+demo: build/planner/planner build/planner/grid
+	demo/run
 
-test: layout names unchanged header oracle archive planner prove
-
-# a C program over the archive that users link: two meshes, and a refusal that leaves the second as it was
-planner: build/archive/libbridgeyarn.a
-	tools/x86-64-cc build/demo/grid planner/grid.c
-	tools/x86-64-cc build/demo/planner planner/planner.c
-	demo/planner
+test: layout names unchanged header oracle archive listing planner prove
 
 setup:
 	tools/setup cc c++ cargo python3
@@ -47,13 +42,13 @@ header: setup
 	cc -std=c99 -Wall -Wextra -Werror -pedantic -fsyntax-only -x c include/bridgeyarn.h
 	c++ -Wall -Wextra -Werror -pedantic -fsyntax-only -x c++ include/bridgeyarn.h
 
-# the library for this machine, call by call beside the unchanged Rust
+# the library for this machine, call by call beside the unchanged Rust; a grid that differs is left in build/oracle as a sample record
 oracle: $(HARNESS)
+ifdef N
+	$(HARNESS) grids $(N) $(SEED)
+else
 	$(HARNESS) compare $(CASES)
-
-# whole extractions beside the Rust, as many small grids as asked and one in 5,000 as many large ones: make grids N=1000000
-grids: $(HARNESS)
-	$(HARNESS) grids $(or $(N),100000) $(or $(SEED),1)
+endif
 
 # sample records from a coverage-guided fuzzer, for so many seconds: make fuzz SECONDS=600
 fuzz: setup
@@ -64,6 +59,22 @@ archive: build/archive/libbridgeyarn.a $(HARNESS)
 	$(HARNESS) replay build/archive/requests 100000
 	tools/x86-64-cc build/archive/replay oracle/archive/replay.c
 	tools/x86-64-run build/archive/replay build/archive/requests
+
+# the listing program, proved and compiled, on stored records, each of which the harness makes again
+listing: build/listing/program $(HARNESS)
+	rm -rf build/listing/made
+	$(HARNESS) listings build/listing/made
+	oracle/listing/run build/listing/program build/listing/made
+
+# the planner: linked with the archive that users link, and built for this machine with the checks of addresses and undefined
+# behaviour; the check of leaks traces the process, which not every machine allows
+planner: build/planner/planner build/planner/grid build/planner/planner-checked
+	planner/test build/planner/grid tools/x86-64-run build/planner/planner
+	ASAN_OPTIONS=detect_leaks=0 planner/test build/planner/grid build/planner/planner-checked
+
+# the table of crates in the README: the lines as they are, and the seconds that LOG, the output of `rt ci`, has
+crate-table:
+	tools/crate-table $(LOG)
 
 # from nothing: every crate, every must-fail edit, every program; nothing may come after it
 prove: setup
@@ -76,7 +87,8 @@ bench: build/bench/release/bench
 bench-peers: build/bench/release/bench
 	bench/peers build/bench/release/bench build/bench
 
-SOURCES := crates.txt $(shell find crates -name '*.rt' -o -name '*.antt')
+LISTING_SOURCES := $(shell find crates/listing crates/listing_text -name '*.rt' -o -name '*.antt')
+SOURCES := $(filter-out $(LISTING_SOURCES),$(shell find crates -name '*.rt' -o -name '*.antt'))
 
 build/archive/libbridgeyarn.a: $(SOURCES) | setup
 	@echo "proving bridgeyarn and what it rests on, and compiling it for x86-64"
@@ -92,6 +104,19 @@ $(HARNESS): build/native/libbridgeyarn.a $(shell find oracle -name '*.rs' -o -na
 	cd oracle/isosurface && RUSTFLAGS=-Awarnings CARGO_TARGET_DIR=$(CURDIR)/build/isosurface cargo build --release --offline --quiet
 	cd oracle/harness && BRIDGEYARN_LIB=$(CURDIR)/build/native CARGO_TARGET_DIR=$(CURDIR)/build/oracle cargo build --release --offline --quiet
 	touch $@
+
+build/listing/program: $(SOURCES) $(LISTING_SOURCES) | setup
+	@echo "proving the listing program and what it rests on, and compiling it for x86-64"
+	rt check listing
+	mkdir -p build/listing
+	cp target/bin/listing $@
+
+build/planner/%: planner/%.c include/bridgeyarn.h build/archive/libbridgeyarn.a
+	tools/x86-64-cc $@ $<
+
+build/planner/planner-checked: planner/planner.c include/bridgeyarn.h build/native/libbridgeyarn.a
+	mkdir -p build/planner
+	cc -std=c99 -g -O1 -Wall -Wextra -Werror -pedantic -fsanitize=address,undefined -fno-sanitize-recover=all -Iinclude $< build/native/libbridgeyarn.a -o $@
 
 build/bench/release/bench: build/native/libbridgeyarn.a $(shell find bench oracle -name '*.rs' -o -name '*.toml') | setup
 	cd bench && BRIDGEYARN_LIB=$(CURDIR)/build/native CARGO_TARGET_DIR=$(CURDIR)/build/bench cargo build --release --offline --quiet

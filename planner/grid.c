@@ -2,7 +2,8 @@
  *
  *     grid SURFACE SIZE NUMBERING [nan] > RECORD
  *
- * SURFACE is sphere, gyroid or boxes; SIZE is 2 to 128; NUMBERING is 0 (crate) or 1 (joined). With nan, one sample is not a number. */
+ * SURFACE is sphere, gyroid or boxes; SIZE is 2 to 128; NUMBERING is 0 (crate) or 1 (joined), and any other word is written as it is. With
+ * nan, the sample in the middle is not a number. Exit status: 0 done, 2 wrong usage, 3 the record could not be written. */
 #include <stdint.h>
 #include <stdio.h>
 #include <stdlib.h>
@@ -59,12 +60,17 @@ static float sample(const char *surface, float x, float y, float z)
     return boxes(x, y, z);
 }
 
+static int known(const char *surface)
+{
+    return strcmp(surface, "sphere") == 0 || strcmp(surface, "gyroid") == 0 || strcmp(surface, "boxes") == 0;
+}
+
 int main(int count, char **words)
 {
     uint32_t header[5], n, x, y, z, bad;
     float h, value;
     n = count >= 4 ? (uint32_t)strtoul(words[2], NULL, 10) : 0;
-    if (n < 2 || n > 128 || (strcmp(words[1], "sphere") != 0 && strcmp(words[1], "gyroid") != 0 && strcmp(words[1], "boxes") != 0)) {
+    if (n < 2 || n > 128 || !known(words[1]) || count > 5 || (count == 5 && strcmp(words[4], "nan") != 0)) {
         fprintf(stderr, "usage: grid sphere|gyroid|boxes SIZE NUMBERING [nan] > RECORD\n");
         return 2;
     }
@@ -73,7 +79,7 @@ int main(int count, char **words)
     header[2] = (uint32_t)strtoul(words[3], NULL, 10);
     header[3] = n * n * (n + 1);
     header[4] = 20;
-    bad = count >= 5 ? header[3] / 2 : header[3];
+    bad = count == 5 ? header[3] / 2 : header[3];
     h = 1.0f / (float)(n - 1);
     fwrite(header, 4, 5, stdout);
     for (z = 0; z <= n; z++)

@@ -1,0 +1,99 @@
+-- `list_grid`: the answer's cause says which text is owed, and the mesh fits the program's buffers.
+use mathlib.Core.Path.{_≡_, sym, subst}
+use mathlib.Core.List.{List}
+use Prim.Native.Nat.{ℕ}
+use native.Mathlib.Omega.{arith}
+use lib.ListN.{length}
+use Rattle.listing_text.specs.Put.{Put}
+use Rattle.listing_text.specs.Lines.{refusedLine}
+use Rattle.listing.specs.Listing.{gridText}
+use Rattle.listing.proofs.Room.{text-le}
+use Rattle.listing.proofs.Mesh.{own-refused, own-mesh, own-room}
+use borrow.Author.Needs.{needs}
+use Rattle.listing.proofs.list_grid.Statement.{statement}
+use Rattle.listing.proofs.list_grid.Tie as tie
+
+slice-aggregate-extract : tie.Need-slice-aggregate-extract
+slice-aggregate-extract c = search needs
+
+slice-aggregate-extract-2 : tie.Need-slice-aggregate-extract-2
+slice-aggregate-extract-2 c = search needs
+
+slice-aggregate-extract-3 : tie.Need-slice-aggregate-extract-3
+slice-aggregate-extract-3 c = search needs
+
+extract-requires : tie.Need-extract-requires
+extract-requires c κs = search needs
+
+put-refused-requires : tie.Need-put-refused-requires
+put-refused-requires c κs = search needs
+
+same-length : tie.Need-same-length
+same-length c = search needs
+
+returns : tie.Need-returns
+returns c =
+    let put = c .before .before in
+    let refused = put .before .before in
+    let made = refused .before .before .before .before .before in
+    let start = made .before .before .before .before .before .before in
+    let given = start .pre .0 in
+    let owed : gridText (start .args .size) (start .args .numbering) (start .args .samples .now) ≡ refusedLine (made .extract .result .cause) (made .extract .result .place) =
+    own-refused (start .args .size) (start .args .numbering) (start .args .samples .now) (given .0) (given .1) (given .2) (given .3) _ (made .extract .ensures) (refused .if1 .taken) in (
+      subst (λ (piece : List ℕ). Put (start .args .text .now) 0 piece (put .put-refused .last .0) (put .put-refused .result)) (sym owed) (put .put-refused .ensures .0),
+      omega (arith, put .put-refused .ensures .1),
+    )
+
+slice-aggregate-put-mesh : tie.Need-slice-aggregate-put-mesh
+slice-aggregate-put-mesh c = search needs
+
+slice-aggregate-put-mesh-2 : tie.Need-slice-aggregate-put-mesh-2
+slice-aggregate-put-mesh-2 c = search needs
+
+put-mesh-requires : tie.Need-put-mesh-requires
+put-mesh-requires c κs =
+    let listed = c .before .before .before in
+    let made = listed .before .before .before .before .before in
+    let start = made .before .before .before .before .before .before in
+    let given = start .pre .0 in
+    let room = own-room (start .args .size) (start .args .numbering) (start .args .samples .now) (given .0) (given .1) (given .2) (given .3) _ (made .extract .ensures) (listed .if1 .left) in
+    let text = text-le (made .extract .result .vertices) (made .extract .result .indices) (room .0) (room .1) in
+    let floats : length (made .extract .last .1 .1 .1 .1 .0) ≡ 11340 = made .extract .kept .1 .1 .1 .1 .0 in
+    let words : length (made .extract .last .1 .1 .1 .1 .1 .0) ≡ 3780 = made .extract .kept .1 .1 .1 .1 .1 .0 in
+    ((omega (arith, room .0, room .1, floats), omega (arith, room .1, words)), omega (arith, text, start .pre .1))
+
+same-length-2 : tie.Need-same-length-2
+same-length-2 c = search needs
+
+returns-2 : tie.Need-returns-2
+returns-2 c =
+    let put = c .before .before in
+    let listed = put .before .before .before .before in
+    let made = listed .before .before .before .before .before in
+    let start = made .before .before .before .before .before .before in
+    let given = start .pre .0 in
+    let size = start .args .size in
+    let numbering = start .args .numbering in
+    let samples = start .args .samples .now in
+    let owed = own-mesh size numbering samples (given .0) (given .1) (given .2) (given .3) _ (made .extract .ensures) (listed .if1 .left) in
+    let room = own-room size numbering samples (given .0) (given .1) (given .2) (given .3) _ (made .extract .ensures) (listed .if1 .left) in (
+      subst (λ (piece : List ℕ). Put (start .args .text .now) 0 piece (put .put-mesh .last .0) (put .put-mesh .result)) (sym (owed .text)) (put .put-mesh .ensures .0),
+      omega (arith, put .put-mesh .ensures .1, text-le (made .extract .result .vertices) (made .extract .result .indices) (room .0) (room .1)),
+    )
+
+pub list-grid-spec : {M : Type 1} → statement M
+list-grid-spec =
+    tie.close
+    (tie.spec
+    slice-aggregate-extract
+    slice-aggregate-extract-2
+    slice-aggregate-extract-3
+    extract-requires
+    put-refused-requires
+    same-length
+    returns
+    slice-aggregate-put-mesh
+    slice-aggregate-put-mesh-2
+    put-mesh-requires
+    same-length-2
+    returns-2)
