@@ -1,0 +1,7 @@
+pub mod EdgeSets
+pub mod NameWords
+pub mod CrateCell
+pub mod HeldBits
+pub mod HeldBorder
+pub mod Places
+pub mod CellSteps
