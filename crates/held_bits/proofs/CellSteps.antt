@@ -64,8 +64,8 @@ grown word written has es small names =
 
 -- where the steps are told by their equations
 module _ (names work : List ℕ) (case a b named has new first written : ℕ) (table : names ≡ nameWords) (case-lt : case < 256)
-  (is-named : named ≡ namedSet (getD names case 0) written) (is-held : has ≡ heldSet a b) (is-new : new ≡ newSet named has)
-  (is-first : first ≡ firstMade (getD names case 0) written) where
+    (is-named : named ≡ namedSet (getD names case 0) written) (is-held : has ≡ heldSet a b) (is-new : new ≡ newSet named has)
+    (is-first : first ≡ firstMade (getD names case 0) written) where
   pub counts-grown : first + ones new ≤ getD names case 0 / 4096 % 16
   counts-grown =
       rw (is-new, is-named, is-first, is-held, table)

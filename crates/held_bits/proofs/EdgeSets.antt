@@ -103,6 +103,7 @@ newEdges-counted (e ∷ es) new h =
     at-other true true = refl
     at-other true false = refl
     at-other false w = refl
+
     held : (q m w : Bool) → (q ≡ true → w ≡ false) → (m && w) ≡ ((q || m) && w)
     held true m true f = absurd (true≢false (f refl))
     held true true false f = refl

@@ -94,7 +94,7 @@ module _ (n x y : ℕ) (c : Cache) (zeros : (e : ℕ) → c .current e ≡ 0) (n
           (bool-cases (ltb 0 f))
 
   module _ (a b : ℕ) (layer : (d : ℕ) → d < 4 → bitAt a (4 + d) ≡ bit (ltb 0 (c .layers0 (y * n + x) d)))
-    (row : (d : ℕ) → d < 3 → bitAt b (putPlace d) ≡ bit (ltb 0 (c .rows0 x d))) where
+      (row : (d : ℕ) → d < 3 → bitAt b (putPlace d) ≡ bit (ltb 0 (c .rows0 x d))) where
     at-edge : (i e : ℕ) (v : Bool) → ltb 0 (found n x y e c) ≡ v → bitAt (heldSet a b) i ≡ bit v → bitAt (heldSet a b) i ≡ bit (hasNumber n x y c e)
     at-edge i e v f h = h ∙ ap bit (sym f ∙ sym (has-found e))
 

@@ -90,6 +90,7 @@ module _ (n : ℕ) (old : List ℕ) (room : heldRoom n ≤ length old) where
             (ap (λ (k : ℕ). bitAt k (putPlace d)) (put-other work at new (rowWord n (1 - r) u) (λ q. omega arith)) ∙ s .row1 u d hu hd) (has-row new f has d hd)
             ∙ ap bit (sym (rows u d hd));
       }
+
   layer-swap : (work : List ℕ) (l r : ℕ) (l0 l1 r0 r1 : ℕ → ℕ → ℕ) → Bits n old work l r l0 l1 r0 r1 → Bits n old work (1 - l) r l1 l0 r0 r1
   layer-swap work l r l0 l1 r0 r1 s =
       record {

@@ -49,11 +49,7 @@ fn named_set(word: u32, written: u32) -> u32
 fn first_made(word: u32, written: u32) -> u32
     ensures { λ r. ⌜ r ≡ firstMade word written ⌝ }
 {
-    if written == 0 {
-        word / 268435456
-    } else {
-        0
-    }
+    if written == 0 { word / 268435456 } else { 0 }
 }
 
 // What a cell finds, from the word of its place in the layer and in the row that it reads.
