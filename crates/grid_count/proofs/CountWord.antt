@@ -1,20 +1,20 @@
 -- The count over the cells of a word and of a row: those whose bit is 0 visit nothing and add nothing.
-use mathlib.Core.Path.{_≡_, refl, sym, ap, ap₂, _∙_}
+use mathlib.Core.Path.{_≡_, refl, ap, ap₂, _∙_}
 use mathlib.Core.Bool.{Bool, true, false, cond}
 use mathlib.Core.List.{List, []}
-use Prim.Native.Nat.{ℕ, _+_, _-_, _*_, _/_, _%_, _^_, _≤_, _<_}
+use Prim.Native.Nat.{ℕ, _+_, _-_, _*_, _/_, _^_, _≤_, _<_}
 use native.Mathlib.Nat.{add-zero}
 use native.Mathlib.Omega.{arith}
 use borrow.Author.Tests.{eq-eqb, ne-eqb}
 use lib.Count.{trailingZeros}
 use lib.Dec.{eqb}
-use lib.ListN.{length, getD}
+use lib.ListN.{getD}
 use lib.Ieee.{Float}
 use Rattle.marching_cubes_tables.specs.Rule.{rowEdges, bitAt}
 use Rattle.walk.specs.Walk.{Inside, signs, cellEdges, times}
 use Rattle.walk.specs.Ownership.{newEdges}
 use Rattle.walk.proofs.SignByte.{signs-lt}
-use Rattle.walk_models.specs.Owned.{Count, cellNew, countCell, cellsOfRow}
+use Rattle.walk_models.specs.Owned.{cellNew, countCell, cellsOfRow}
 use Rattle.lent_mesh.specs.declared.Counts.{Counts}
 use Rattle.lent_mesh.specs.Grid.{insideOf}
 use Rattle.sign_words.specs.Cells.{cellsIn, activeWord}

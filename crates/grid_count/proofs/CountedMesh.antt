@@ -1,19 +1,21 @@
 -- What the count's code counts is the mesh of its numbering, and nothing past the words that it keeps has changed. For `marching_cubes::count`.
 use mathlib.Core.Path.{_≡_, refl, sym, ap, _∙_, subst}
-use mathlib.Core.Bool.{Bool, true, false, cond}
+use mathlib.Core.Bool.{false}
 use mathlib.Core.List.{List, []}
-use Prim.Native.Nat.{ℕ, zero, suc, _+_, _-_, _*_, _%_, _≤_, _<_}
+use Prim.Native.Nat.{ℕ, suc, _+_, _-_, _*_, _%_, _≤_, _<_}
 use native.Mathlib.Nat.{zero-mul, suc-mul, add-suc}
+use native.Mathlib.Numerals.{add-one}
 use native.Mathlib.Omega.{arith}
 use lib.Dec.{eqb}
 use lib.ListN.{length, getD, drop}
-use Rattle.walk.specs.Walk.{Inside, times, cell, cells, rows, walk}
+use Rattle.walk.specs.Walk.{Inside, cells, rows, walk}
 use Rattle.walk.specs.Cache.{Cache, fresh}
 use Rattle.walk.specs.Numbering.{Mesh, empty, hooks, mesh, joined, crate}
 use Rattle.walk.proofs.WalkInduction.{times-kept}
 use Rattle.walk_models.specs.Owned.{Count, countCell, cellsOfRow, cellsOfLayer, cellsOfGrid}
 use Rattle.walk_models.proofs.JoinedCells.{count-cells}
 use Rattle.grid_walk.specs.Steps.{layerParity, rowParity}
+use Rattle.grid_walk.proofs.Layers.{parity-next}
 use Rattle.held_bits.specs.HeldCell.{Held, heldRoom}
 use Rattle.held_bits.proofs.HeldBorder.{Border, cell-kept, row-end-kept, layer-end-kept, start-border}
 use Rattle.grid_count.specs.Steps.{countIn, countStep, endStep, countSteps}
@@ -31,7 +33,7 @@ module _ (n : ℕ) (g : Inside) (old : List ℕ) (room : heldRoom n ≤ length o
   -- ---- crate
 
   turned : (k : ℕ) → 1 - k % 2 ≡ suc k % 2
-  turned k = omega arith
+  turned k = parity-next k (k % 2) refl ∙ ap (λ (j : ℕ). j % 2) (add-one k)
 
   abbrev Beside : ℕ → ℕ → Mesh Cache → Held → Type 0
   Beside z y s t = Border n old room (layerParity z) (rowParity n z y) s t

@@ -1,7 +1,7 @@
 -- What each function of the count may rely on. A private model, which only the contracts of this crate cite; nobody need believe it.
 use mathlib.Core.Path.{_≡_}
 use mathlib.Core.List.{List}
-use Prim.Native.Nat.{ℕ, _+_, _*_, _^_, _≤_, _<_}
+use Prim.Native.Nat.{ℕ, _+_, _^_, _≤_, _<_}
 use lib.ListN.{length}
 use Rattle.packed_tables.specs.Packed.{rowWords, newWords}
 use Rattle.lent_mesh.specs.declared.Counts.{Counts}

@@ -1,8 +1,7 @@
 -- What the count's code does, cell by cell: the crate numbering by the words of held edges, the joined numbering by the lengths of two lists. A private model,
 -- as Countable.antt; `proofs/CrateCount.antt` and `proofs/JoinedCount.antt` prove that it comes to the defined mesh.
 use mathlib.Core.Bool.{cond}
-use mathlib.Core.List.{List}
-use Prim.Native.Nat.{ℕ, suc, _+_, _-_, _*_}
+use Prim.Native.Nat.{ℕ, suc, _-_}
 use lib.Dec.{eqb}
 use lib.ListN.{getD}
 use Rattle.walk.specs.Walk.{Inside, signs, times}

@@ -3,7 +3,7 @@
 // packed words say; one of the crate numbering is counted by the edges that are held in working memory.
 ghost use mathlib.Core.Path.{_≡_};
 ghost use mathlib.Core.Bool.{cond};
-ghost use Prim.Native.Nat.{ℕ, _+_, _-_, _*_, _^_, _≤_, _<_};
+ghost use Prim.Native.Nat.{_+_, _-_, _*_, _≤_, _<_};
 ghost use lib.Dec.{eqb};
 ghost use lib.ListN.{length};
 ghost use Rattle.walk.specs.Walk.{Inside, signs, times};

@@ -1,10 +1,11 @@
--- What the steps of `held_cell` come to, over plain values: the cell of the model, and no more vertices than indices.
+-- What the steps of `held_cell` and of `clear_held` come to, over plain values: the cell of the model, no more vertices than indices, and a row cleared.
 use mathlib.Core.Path.{_≡_, refl, sym, ap, _∙_}
 use mathlib.Core.Logic.{⊎-elim}
 use mathlib.Core.Bool.{Bool, true, false, cond, not}
 use mathlib.Core.List.{List, [], _∷_}
-use Prim.Native.Nat.{ℕ, _+_, _-_, _*_, _/_, _%_, _≤_, _<_}
+use Prim.Native.Nat.{ℕ, suc, _+_, _-_, _/_, _%_, _≤_, _<_}
 use native.Mathlib.Nat.{add-zero}
+use native.Mathlib.Numerals.{add-one}
 use native.Mathlib.Omega.{arith}
 use lib.Bits.{bitXor, or-zero-l, or-zero-r, xor-self}
 use lib.Count.{ones, onesIn}
@@ -12,15 +13,14 @@ use lib.Dec.{T, eqb, eqb→eq}
 use lib.ListN.{length, getD, set}
 use lib.Seq.{set-getD}
 use Rattle.marching_cubes_tables.specs.Rule.{rowEdges, bitAt, member}
-use Rattle.walk.specs.Walk.{bit}
-use Rattle.walk.specs.Ownership.{newEdges}
+use Rattle.walk.specs.Walk.{bit, times}
 use Rattle.walk.proofs.Below.{allBelow, allBelow-at}
 use Rattle.walk.proofs.Bools.{bool-cases}
 use Rattle.packed_tables.specs.Unpacked.{Edges}
 use Rattle.held_bits.specs.Names.{nameWords}
-use Rattle.held_bits.specs.HeldCell.{Held, layerWord, rowWord, namedSet, firstMade, heldSet, newSet, putSet, heldCell}
+use Rattle.held_bits.specs.HeldCell.{Held, layerWord, rowWord, namedSet, firstMade, heldSet, newSet, putSet, heldCell, clearHeld}
 use Rattle.held_bits.proofs.EdgeSets.{edgeAt, Has, newEdges-le, newSet-ones}
-use Rattle.held_bits.proofs.NameWords.{afterFirst, first, Names, name-word}
+use Rattle.held_bits.proofs.NameWords.{afterFirst, first, Names, name-word, after-edges}
 use Rattle.held_bits.proofs.HeldBits.{some-bit, heldSet-lt}
 
 -- ---- how far the counts grow
@@ -39,11 +39,6 @@ new-le es named has each p q set =
     let e = newSet-ones es named has (λ e. eqb (bitAt has (edgeAt e)) 1) each p q set (some-set has) in
     let l = newEdges-le es (λ e. not (eqb (bitAt has (edgeAt e)) 1)) in
     omega arith
-
-after-edges : (es : List ℕ) → Edges es → Edges (afterFirst es)
-unfolding Edges
-after-edges [] h = tt
-after-edges (e ∷ es) h = h .1
 
 first-and-after : (es : List ℕ) → first es + length (afterFirst es) ≡ length es
 first-and-after [] = refl
@@ -106,3 +101,11 @@ pub heldCell-idle : (n l r x y case : ℕ) (s : Held) → case < 256 → rowEdge
 heldCell-idle n l r x y case s h none =
     let zero : getD nameWords case 0 ≡ 0 = name-word case h .none (ap length none) in
     rw zero (none-is n l r x y s)
+
+-- ---- one place of a row more is cleared
+
+pub clearHeld-suc : (n r x at : ℕ) (w u t : List ℕ) → at ≡ rowWord n r x → u ≡ clearHeld n r x w → t ≡ set u at 0 → t ≡ clearHeld n r (x + 1) w
+unfolding clearHeld times
+clearHeld-suc n r x at w u t p q d =
+    let turn : t ≡ clearHeld n r (suc x) w = rw (d, q, p) refl in
+    turn ∙ ap (λ (k : ℕ). clearHeld n r k w) (sym (add-one x))

@@ -4,16 +4,15 @@ use mathlib.Core.Path.{_≡_, refl, sym, ap, ap₂, _∙_, subst}
 use mathlib.Core.Logic.{_⊎_, ⊎-elim}
 use mathlib.Core.Bool.{Bool, true, false, cond, not, _&&_, _||_, Bool·beq, and-false, or-false, true≢false, false≢true}
 use mathlib.Core.List.{List, [], _∷_, _++_}
-use Prim.Native.Nat.{ℕ, zero, suc, _+_, _-_, _*_, _≤_, _<_}
-use native.Mathlib.Nat.{add-zero}
+use Prim.Native.Nat.{ℕ, suc, _+_, _-_, _*_, _<_}
 use native.Mathlib.Omega.{arith}
 use lib.Dec.{T, eqb, leb, ltb}
 use lib.ListN.{length}
-use borrow.Author.Tests.{eqb-true, eqb-false, eq-eqb, ne-eqb, le-leb, leb-true, lt-ltb, ltb-true, ltb-false}
+use borrow.Author.Tests.{eqb-true, eq-eqb, le-leb, leb-true, lt-ltb, ltb-true, ltb-false}
 use Rattle.marching_cubes_tables.specs.Rule.{member}
 use Rattle.marching_cubes_tables.proofs.Tests.{beq-eq}
 use Rattle.walk.specs.Walk.{Visit}
-use Rattle.walk.specs.Cache.{Cache, stored, putColumn, getColumn, inLayer, put, found, get}
+use Rattle.walk.specs.Cache.{Cache, stored, putColumn, inLayer, put, found, get}
 use Rattle.walk.specs.Numbering.{Mesh, choose, crate, oneMore}
 use Rattle.walk.specs.Ownership.{newEdges}
 use Rattle.walk.proofs.Below.{allBelow, allBelow-at}

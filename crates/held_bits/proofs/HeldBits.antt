@@ -2,14 +2,14 @@
 -- from then on.
 use mathlib.Core.Path.{_≡_, refl, sym, ap, _∙_}
 use mathlib.Core.Logic.{_⊎_, ⊎-elim}
-use mathlib.Core.Bool.{Bool, true, false, cond, not, _&&_, _||_, and-false, or-false}
-use mathlib.Core.List.{List, [], _∷_}
-use Prim.Native.Nat.{ℕ, zero, suc, _+_, _-_, _*_, _/_, _%_, _^_, _≤_, _<_}
+use mathlib.Core.Bool.{Bool, true, false, cond, _&&_, _||_, and-false, or-false}
+use mathlib.Core.List.{List, []}
+use Prim.Native.Nat.{ℕ, zero, suc, _+_, _-_, _*_, _/_, _%_, _^_, _<_}
 use native.Mathlib.Nat.{mod-lt}
 use native.Mathlib.Omega.{arith}
 use lib.Bits.{bitOr, bitAnd, or-lt, and-le-r}
 use lib.Dec.{eqb, ltb}
-use lib.ListN.{length, getD, set, length-set}
+use lib.ListN.{length, getD, length-set}
 use lib.Seq.{getD-set-same, getD-set-other}
 use borrow.Author.Tests.{eqb-true, eqb-false}
 use Rattle.marching_cubes_tables.specs.Rule.{bitAt}
@@ -18,7 +18,7 @@ use Rattle.walk.specs.Cache.{Cache, getColumn, found, get}
 use Rattle.walk.proofs.Bools.{bool-cases}
 use Rattle.sign_words.proofs.OneBit.{and-bit, or-bit}
 use Rattle.held_bits.specs.HeldCell.{heldSet, putSet}
-use Rattle.held_bits.proofs.EdgeSets.{edgeAt, Has}
+use Rattle.held_bits.proofs.EdgeSets.{Has}
 use Rattle.held_bits.proofs.CrateCell.{putEdge, hasNumber}
 
 -- ---- a set, at the edges that are put

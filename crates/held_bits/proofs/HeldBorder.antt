@@ -1,6 +1,6 @@
 -- Between two cells: the words that are kept say of each entry of the index cache whether it is 0, and the counts are those of the mesh. A cell, the end of a
 -- row and the end of a layer keep that.
-use mathlib.Core.Path.{_≡_, refl, sym, ap, ap₂, _∙_, subst}
+use mathlib.Core.Path.{_≡_, refl, sym, ap, _∙_, subst}
 use mathlib.Core.Logic.{_⊎_, ⊎-elim}
 use mathlib.Core.Bool.{Bool, true, false, cond, not, _&&_, _||_}
 use mathlib.Core.List.{List, [], _∷_}
@@ -27,7 +27,7 @@ use Rattle.packed_tables.specs.Unpacked.{Edges}
 use Rattle.held_bits.specs.Names.{nameWords}
 use Rattle.held_bits.specs.HeldCell.{Held, heldRoom, layerWord, rowWord, namedSet, firstMade, heldSet, newSet, putSet, heldCell, clearHeld}
 use Rattle.held_bits.proofs.EdgeSets.{Has, newSet-has, newSet-ones}
-use Rattle.held_bits.proofs.NameWords.{afterFirst, first, Names, name-word}
+use Rattle.held_bits.proofs.NameWords.{afterFirst, first, Names, name-word, after-edges}
 use Rattle.held_bits.proofs.CrateCell.{putEdge, hasNumber, Quiet, visit, Left, visits-left, first-left}
 use Rattle.held_bits.proofs.HeldBits.{putPlace, has-layer, has-row, heldSet-lt, held-has, put-length, put-other, put-bit}
 
@@ -241,11 +241,6 @@ module _ (n : ℕ) (old : List ℕ) (room : heldRoom n ≤ length old) where
     first-some : (es : List ℕ) → 0 < length es → 0 < first es
     first-some [] h = h
     first-some (e ∷ es) h = omega arith
-
-    after-edges : (es : List ℕ) → Edges es → Edges (afterFirst es)
-    unfolding Edges
-    after-edges [] h = tt
-    after-edges (e ∷ es) h = h .1
 
     fold-none : (es : List ℕ) → length es ≡ 0 → fold (visit n x y z) es s ≡ s
     unfolding fold

@@ -3,5 +3,4 @@ pub mod NameWords
 pub mod CrateCell
 pub mod HeldBits
 pub mod HeldBorder
-pub mod Places
 pub mod CellSteps

@@ -1,8 +1,8 @@
 -- What a word of the table says of its row: one test over the 256 words, and what it says of each.
-use mathlib.Core.Path.{_≡_, refl, sym, ap, _∙_, subst}
-use mathlib.Core.Bool.{Bool, true, false, not, _&&_, _||_}
+use mathlib.Core.Path.{_≡_, refl, sym, subst}
+use mathlib.Core.Bool.{Bool, true, _&&_}
 use mathlib.Core.List.{List, [], _∷_}
-use Prim.Native.Nat.{ℕ, zero, suc, _+_, _/_, _%_, _^_, _≤_, _<_}
+use Prim.Native.Nat.{ℕ, suc, _/_, _%_, _<_}
 use native.Mathlib.Omega.{arith}
 use lib.Dec.{T, eqb, eqb→eq}
 use lib.ListN.{length, getD}
@@ -14,6 +14,7 @@ use Rattle.marching_cubes_tables.proofs.Rows.{every, every-at}
 use Rattle.walk.specs.Walk.{bit}
 use Rattle.walk.proofs.Below.{allBelow, allBelow-at}
 use Rattle.packed_tables.specs.Unpacked.{Edges}
+use Rattle.index_cache.proofs.PackedVisits.{edges-of-each}
 use Rattle.held_bits.specs.Names.{nameWords}
 use Rattle.held_bits.proofs.EdgeSets.{edgeAt, Has}
 
@@ -66,11 +67,6 @@ none-zero : (es : List ℕ) (word : ℕ) → T (zeroIfNone es word) → length e
 none-zero [] word t h = eqb→eq word 0 t
 none-zero (e ∷ es) word t h = absurd (omega arith)
 
-edges-each : (es : List ℕ) → ((j : ℕ) → j < length es → getD es j 0 < 12) → Edges es
-unfolding Edges
-edges-each [] h = tt
-edges-each (e ∷ es) h = (h 0 (omega arith), edges-each es (λ j l. h (suc j) (omega arith)))
-
 passed : (word : ℕ) (es : List ℕ) → T (rightFor word es) → Edges es → Names word es
 passed word es t each =
     let b1 = eqb (word / 4096 % 16) (length es) in
@@ -94,4 +90,9 @@ pub name-word : (s : ℕ) → s < 256 → Names (getD nameWords s 0) (rowEdges s
 unfolding rowEdges
 name-word s h =
     passed (getD nameWords s 0) (named (row s)) (every-at right 0 nameWords all-right s (subst (λ (n : ℕ). s < n) (sym words-length) h))
-    (edges-each (named (row s)) (row-rule s h .edge))
+    (edges-of-each (named (row s)) (row-rule s h .edge))
+
+pub after-edges : (es : List ℕ) → Edges es → Edges (afterFirst es)
+unfolding Edges
+after-edges [] h = tt
+after-edges (e ∷ es) h = h .1

@@ -3,8 +3,8 @@
 use mathlib.Core.List.{List, [], _∷_}
 use Prim.Native.Nat.{ℕ}
 
--- by sign byte: twelve bits for the edges that the row names, four for the number of its entries, twelve for the edges that it names after its first
--- entry, and 1 above them if it has an entry
+-- by sign byte: twelve bits for the edges that the row names, those of 10 and 11 exchanged, four for the number of its entries, twelve for the edges
+-- that it names after its first entry, and 1 above them if it has an entry
 unfoldable pub nameWords : List ℕ
 nameWords =
     0x0 ∷ 0x11083109 ∷ 0x12023203 ∷ 0x130A630A ∷ 0x18043806 ∷ 0x190E690F ∷ 0x1A056A05 ∷ 0x1B0C9B0C ∷

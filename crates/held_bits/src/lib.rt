@@ -5,7 +5,7 @@ mod names;
 
 ghost use mathlib.Core.Path.{_≡_};
 ghost use Prim.Native.Nat.{_+_, _-_, _*_, _^_, _≤_, _<_};
-ghost use lib.ListN.{length, getD, set};
+ghost use lib.ListN.{length, getD};
 ghost use Rattle.held_bits.specs.Names.{nameWords};
 ghost use Rattle.held_bits.specs.HeldCell.{held, heldRoom, layerWord, rowWord, namedSet, firstMade, heldSet, newSet, putSet, heldCell, clearHeld, HeldRoom};
 use lent_mesh::Counts;

@@ -1,6 +1,6 @@
 // What a row of the triangle table names, one word each: in the lowest twelve bits a bit for each edge that it
-// names, then in four the number of its entries, then in twelve a bit for each edge that it names after its first
-// entry, and then 1 if it has an entry.
+// names, with those of the edges 10 and 11 exchanged, then in four the number of its entries, then in twelve the
+// edges that it names after its first entry, and then 1 if it has an entry.
 pub(crate) const NAME_WORDS: [u32; 256] = [
     0x0, 0x11083109, 0x12023203, 0x130A630A, 0x18043806, 0x190E690F, 0x1A056A05, 0x1B0C9B0C,
     0x1404340C, 0x15056505, 0x160D660F, 0x17069706, 0x1C0A6C0A, 0x1D039D03, 0x1E099E09, 0x1D006F00,

@@ -187,7 +187,8 @@ fn visit(
     }
 }
 
-// The visits of `count` edges of a cell, packed in a word, the first in its lowest four bits.
+// The visits of `count` edges of a cell, packed in a word, the first in its lowest four bits. The two
+// counts are variables of their own, so that one need not wait for the other.
 fn visit_all(
     samples: &[f32],
     coordinates: &[f32; 129],
@@ -214,10 +215,11 @@ fn visit_all(
 {
     let mut left = count;
     let mut rest = edges;
-    let mut reached = counts;
+    let mut made = counts.made;
+    let mut written = counts.written;
     while left > 0 {
         let edge = (rest % 16) as usize;
-        reached = visit(
+        let reached = visit(
             samples,
             coordinates,
             n,
@@ -231,12 +233,14 @@ fn visit_all(
             work,
             vertices,
             indices,
-            reached,
+            Counts { made, written },
         );
+        made = reached.made;
+        written = reached.written;
         rest = rest / 16;
         left -= 1;
     }
-    reached
+    Counts { made, written }
 }
 
 // One cell of the crate numbering: `case` is its sign byte, `rows` the packed rows of the triangle table.

@@ -1,6 +1,6 @@
 -- The two passes of `meshed`: what is counted, and what the walk over the outputs leaves.
 use mathlib.Core.Path.{_≡_, refl, sym, ap, _∙_}
-use mathlib.Core.Bool.{Bool, true, false, cond}
+use mathlib.Core.Bool.{true, false, cond}
 use mathlib.Core.Logic.{⊎-elim}
 use mathlib.Core.List.{List, [], _∷_, _++_, map}
 use Prim.Native.Nat.{ℕ, _+_, _*_, _≤_, _<_}
@@ -8,7 +8,7 @@ use native.Mathlib.Nat.{zero-add}
 use native.Mathlib.Omega.{arith}
 use lib.Dec.{eqb}
 use lib.ListN.{length, getD, drop, replicate, length-replicate, getD-replicate, length-map, length-append, length-drop, List·getD-append}
-use lib.Seq.{sets, sets-eq, drop-drop, drop-append-seam}
+use lib.Seq.{sets-eq, drop-drop, drop-append-seam}
 use lib.Ieee.{Float}
 use borrow.Author.Tests.{eqb-true}
 use Rattle.walk.proofs.Bools.{bool-cases}

@@ -1,6 +1,6 @@
 -- `count_word`: at bit i the cells before it are counted; the lowest bit left is the next cell, and those passed over add nothing.
 use mathlib.Core.Path.{_≡_, refl}
-use Prim.Native.Nat.{ℕ, _+_, _*_, _≤_, _<_}
+use Prim.Native.Nat.{_+_, _≤_, _<_}
 use native.Mathlib.Omega.{arith}
 use lib.Count.{trailingZeros}
 use lib.ListN.{length}

@@ -6,7 +6,7 @@ use lib.ListN.{length, length-set}
 use borrow.Author.Needs.{needs}
 use Rattle.walk.specs.Walk.{times}
 use Rattle.held_bits.specs.HeldCell.{clearHeld}
-use Rattle.held_bits.proofs.Places.{clearHeld-suc}
+use Rattle.held_bits.proofs.CellSteps.{clearHeld-suc}
 use Rattle.held_bits.proofs.clear_held.Statement.{statement}
 use Rattle.held_bits.proofs.clear_held.Tie as tie
 

@@ -1,7 +1,7 @@
 -- `layer_word`: the place is below n².
 use mathlib.Core.Path.{refl}
 use native.Mathlib.Omega.{arith}
-use Rattle.held_bits.proofs.Places.{place-below}
+use Rattle.index_cache.proofs.Places.{place-below}
 use Rattle.held_bits.proofs.layer_word.Statement.{statement}
 use Rattle.held_bits.proofs.layer_word.Tie as tie
 

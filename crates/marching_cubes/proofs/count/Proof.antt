@@ -1,7 +1,4 @@
 -- `count`: from nothing held, and cleared afterwards.
-use mathlib.Core.Path.{sym}
-use native.Mathlib.Nat.{le-of-eq}
-use native.Mathlib.Omega.{arith}
 use borrow.Author.Needs.{needs}
 use Rattle.marching_cubes.proofs.Passes.{counted-pass}
 use Rattle.marching_cubes.proofs.count.Statement.{statement}
