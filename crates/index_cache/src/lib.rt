@@ -187,8 +187,7 @@ fn visit(
     }
 }
 
-// The visits of `count` edges of a cell, packed in a word, the first in its lowest four bits. The two
-// counts are variables of their own, so that one need not wait for the other.
+// The visits of `count` edges of a cell, packed in a word, the first in its lowest four bits.
 fn visit_all(
     samples: &[f32],
     coordinates: &[f32; 129],
@@ -215,11 +214,10 @@ fn visit_all(
 {
     let mut left = count;
     let mut rest = edges;
-    let mut made = counts.made;
-    let mut written = counts.written;
+    let mut reached = counts;
     while left > 0 {
         let edge = (rest % 16) as usize;
-        let reached = visit(
+        reached = visit(
             samples,
             coordinates,
             n,
@@ -233,14 +231,12 @@ fn visit_all(
             work,
             vertices,
             indices,
-            Counts { made, written },
+            reached,
         );
-        made = reached.made;
-        written = reached.written;
         rest = rest / 16;
         left -= 1;
     }
-    Counts { made, written }
+    reached
 }
 
 // One cell of the crate numbering: `case` is its sign byte, `rows` the packed rows of the triangle table.

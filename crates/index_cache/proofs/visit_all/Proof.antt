@@ -12,15 +12,15 @@ use Rattle.index_cache.proofs.visit_all.Statement.{statement}
 use Rattle.index_cache.proofs.visit_all.Tie as tie
 
 abbrev Inv-loop : tie.InvT-loop
-Inv-loop samples coordinates n x y z layer row count edges current₀ work₀ vertices₀ indices₀ left₀ rest₀ made₀ written₀ current work vertices indices left rest made written =
-    (made ≤ written) × (written + left ≡ written₀ + count) × (length work ≡ length work₀) × (length vertices ≡ length vertices₀)
+Inv-loop samples coordinates n x y z layer row count edges current₀ work₀ vertices₀ indices₀ left₀ rest₀ reached₀ current work vertices indices left rest reached =
+    (reached .made ≤ reached .written) × (reached .written + left ≡ reached₀ .written + count) × (length work ≡ length work₀) × (length vertices ≡ length vertices₀)
     × (length indices ≡ length indices₀)
     × Edges (unpacked left rest)
-    × ToGo n samples x y z left rest (inHand (inCell work layer row current) vertices indices (record { made = made; written = written })) count edges
-    (inHand (inCell work₀ layer row current₀) vertices₀ indices₀ (record { made = made₀; written = written₀ }))
+    × ToGo n samples x y z left rest (inHand (inCell work layer row current) vertices indices reached) count edges
+    (inHand (inCell work₀ layer row current₀) vertices₀ indices₀ reached₀)
 
 abbrev μ-loop : tie.MeasureT-loop
-μ-loop samples coordinates n x y z layer row count edges current₀ work₀ vertices₀ indices₀ left₀ rest₀ made₀ written₀ current work vertices indices left rest made written =
+μ-loop samples coordinates n x y z layer row count edges current₀ work₀ vertices₀ indices₀ left₀ rest₀ reached₀ current work vertices indices left rest reached =
     left
 
 loop-holds : tie.Need-loop-holds Inv-loop μ-loop
