@@ -1,1 +1,3 @@
 pub mod CountWord
+pub mod CountLayer
+pub mod CountedMesh

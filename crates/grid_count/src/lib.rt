@@ -1,24 +1,64 @@
-// The count of the joined numbering: each cell adds what its two packed words say, and no working memory
-// is used. Layers, rows and words are taken as the walk takes them; cells whose corners are all alike
-// add nothing and are passed over.
+// The count of either numbering. Layers, rows and words are taken as the walk takes them; cells whose
+// corners are all alike add nothing and are passed over. A cell of the joined numbering adds what its two
+// packed words say; one of the crate numbering is counted by the edges that are held in working memory.
 ghost use mathlib.Core.Path.{_≡_};
-ghost use Prim.Native.Nat.{ℕ, _+_, _-_, _*_, _^_, _≤_, _<_};
+ghost use mathlib.Core.Bool.{cond};
+ghost use Prim.Native.Nat.{_+_, _-_, _*_, _≤_, _<_};
+ghost use lib.Dec.{eqb};
 ghost use lib.ListN.{length};
-ghost use Rattle.walk.specs.Walk.{times};
-ghost use Rattle.walk_models.specs.Owned.{countCell, cellsOfRow, cellsOfLayer, cellsOfGrid};
+ghost use Rattle.walk.specs.Walk.{Inside, signs, times};
+ghost use Rattle.walk_models.specs.Owned.{cellsOfRow, cellsOfLayer};
 ghost use Rattle.lent_mesh.specs.Grid.{insideOf};
 ghost use Rattle.sign_words.specs.Words.{LayerWords};
 ghost use Rattle.sign_words.specs.Cells.{QuadOf, cellsIn, activeWord};
-ghost use Rattle.joined_edges.specs.OneCell.{classOf, countOf};
-ghost use Rattle.grid_count.specs.Countable.{Tables, Countable};
+ghost use Rattle.joined_edges.specs.OneCell.{classOf};
+ghost use Rattle.grid_walk.specs.Steps.{rowParity};
+ghost use Rattle.held_bits.specs.HeldCell.{held, heldRoom, clearHeld};
+ghost use Rattle.grid_count.specs.Countable.{Tables, RowIn, Countable};
+ghost use Rattle.grid_count.specs.Steps.{countStep, countSteps};
 use lent_mesh::Counts;
 use sign_words::Quad;
 
-// The cells of word k of row y that the mask has a bit for, from the lowest. The samples are not read:
-// their signs are in the four words.
-fn count_word(
+// One cell in the numbering asked for. Its case is its sign byte, the class that of its row's cells but
+// the first, and `row` the cache row that is read.
+fn count_cell(
+    numbering: u32,
     rows: &[u64; 256],
     news: &[u64; 2048],
+    names: &[u32; 256],
+    n: usize,
+    x: usize,
+    y: usize,
+    z: usize,
+    case: usize,
+    class: usize,
+    row: usize,
+    work: &mut [u32],
+    counts: Counts,
+) -> Counts
+    requires { ⌜ Tables (now rows) (now news) (now names) ⌝ }
+    requires { ⌜ RowIn n y × (x + 1 < n) × (case < 256) ⌝ }
+    requires { ⌜ (class ≡ classOf 1 y z) × (class ≤ 6) × (row ≡ rowParity n z y) ⌝ }
+    requires { ⌜ Countable n (now work) 15 counts ⌝ }
+    ensures { λ r. ⌜ ((g : Inside) → case ≡ signs g x y z → held (now (work .exit)) r ≡ countStep numbering n g z y x (held (now (work .entry)) counts)) ⌝ }
+    ensures { λ r. ⌜ (r .written ≤ counts .written + 15) × (r .made ≤ r .written) ⌝ }
+{
+    if numbering == 0 {
+        held_bits::held_cell(names, n, x, y, case, z % 2, row, work, counts)
+    } else {
+        let here = joined_edges::class_at(class, x);
+        joined_edges::joined_counts(rows, news, case, here, counts)
+    }
+}
+
+// The cells of word k of row y that the mask has a bit for, from the lowest. The samples are not read:
+// their signs are in the four words. The two counts are variables of their own, so that one need not
+// wait for the other.
+fn count_word(
+    numbering: u32,
+    rows: &[u64; 256],
+    news: &[u64; 2048],
+    names: &[u32; 256],
     samples: &[f32],
     n: usize,
     y: usize,
@@ -27,16 +67,19 @@ fn count_word(
     quad: Quad,
     mask: u32,
     class: usize,
+    row: usize,
+    work: &mut [u32],
     counts: Counts,
 ) -> Counts
-    requires { ⌜ Tables (now rows) (now news) ⌝ }
-    requires { ⌜ QuadOf n (now samples) y z k quad × (mask ≡ activeWord n (now samples) y z k) × (32 * k < n - 1) × (n ≤ 128) ⌝ }
-    requires { ⌜ (class ≡ classOf 1 y z) × (class ≤ 6) ⌝ }
-    requires { ⌜ Countable 480 counts ⌝ }
-    ensures { λ r. ⌜ countOf r ≡ times (cellsIn n k) (λ i t. countCell (insideOf n (now (samples .entry))) z y (32 * k + i) t) (countOf counts) ⌝ }
+    requires { ⌜ Tables (now rows) (now news) (now names) ⌝ }
+    requires { ⌜ RowIn n y × QuadOf n (now samples) y z k quad × (mask ≡ activeWord n (now samples) y z k) × (32 * k < n - 1) ⌝ }
+    requires { ⌜ (class ≡ classOf 1 y z) × (class ≤ 6) × (row ≡ rowParity n z y) ⌝ }
+    requires { ⌜ Countable n (now work) 480 counts ⌝ }
+    ensures { λ r. ⌜ held (now (work .exit)) r ≡ times (cellsIn n k) (λ i t. countStep numbering n (insideOf n (now (samples .entry))) z y (32 * k + i) t) (held (now (work .entry)) counts) ⌝ }
     ensures { λ r. ⌜ (r .written ≤ counts .written + 480) × (r .made ≤ r .written) ⌝ }
 {
-    let mut reached = counts;
+    let mut made = counts.made;
+    let mut written = counts.written;
     let mut rest = mask;
     let mut i: u32 = 0;
     while rest != 0 {
@@ -44,31 +87,50 @@ fn count_word(
         i += skipped;
         let x = 32 * k + (i as usize);
         let case = sign_words::case_of(quad, i);
-        let here = joined_edges::class_at(class, x);
-        reached = joined_edges::joined_counts(rows, news, case, here, reached);
+        let next = count_cell(
+            numbering,
+            rows,
+            news,
+            names,
+            n,
+            x,
+            y,
+            z,
+            case,
+            class,
+            row,
+            work,
+            Counts { made, written },
+        );
+        made = next.made;
+        written = next.written;
         rest = (rest >> skipped) >> 1;
         i += 1;
     }
-    reached
+    Counts { made, written }
 }
 
 // Row y of layer z, between the sign words of the sample layers z and z + 1.
 fn count_row(
+    numbering: u32,
     rows: &[u64; 256],
     news: &[u64; 2048],
+    names: &[u32; 256],
     low: &[u32; 512],
     high: &[u32; 512],
     samples: &[f32],
     n: usize,
     y: usize,
     z: usize,
+    row: usize,
+    work: &mut [u32],
     counts: Counts,
 ) -> Counts
-    requires { ⌜ Tables (now rows) (now news) ⌝ }
-    requires { ⌜ (2 ≤ n) × (n ≤ 128) × (y + 1 < n) ⌝ }
+    requires { ⌜ Tables (now rows) (now news) (now names) ⌝ }
+    requires { ⌜ RowIn n y × (row ≡ rowParity n z y) ⌝ }
     requires { ⌜ LayerWords n (now samples) z (now low) × LayerWords n (now samples) (z + 1) (now high) ⌝ }
-    requires { ⌜ Countable 1920 counts ⌝ }
-    ensures { λ r. ⌜ countOf r ≡ cellsOfRow (countCell (insideOf n (now (samples .entry)))) n z y (n - 1) (countOf counts) ⌝ }
+    requires { ⌜ Countable n (now work) 1920 counts ⌝ }
+    ensures { λ r. ⌜ held (now (work .exit)) r ≡ cellsOfRow (countStep numbering n (insideOf n (now (samples .entry)))) n z y (n - 1) (held (now (work .entry)) counts) ⌝ }
     ensures { λ r. ⌜ (r .written ≤ counts .written + 1920) × (r .made ≤ r .written) ⌝ }
 {
     if sign_words::outside(low, high, y) {
@@ -80,46 +142,94 @@ fn count_row(
     while 32 * k < n - 1 {
         let quad = sign_words::quad_at(low, high, y, k);
         let mask = sign_words::active(quad, n, k);
-        reached = count_word(rows, news, samples, n, y, z, k, quad, mask, class, reached);
+        reached = count_word(
+            numbering,
+            rows,
+            news,
+            names,
+            samples,
+            n,
+            y,
+            z,
+            k,
+            quad,
+            mask,
+            class,
+            row,
+            work,
+            reached,
+        );
         k += 1;
     }
     reached
 }
 
+// The rows of layer z; `parity` says which of the two cache rows is read in its first row.
 fn count_layer(
+    numbering: u32,
     rows: &[u64; 256],
     news: &[u64; 2048],
+    names: &[u32; 256],
     low: &[u32; 512],
     high: &[u32; 512],
     samples: &[f32],
     n: usize,
     z: usize,
+    parity: usize,
+    work: &mut [u32],
     counts: Counts,
 ) -> Counts
-    requires { ⌜ Tables (now rows) (now news) ⌝ }
-    requires { ⌜ (2 ≤ n) × (n ≤ 128) ⌝ }
+    requires { ⌜ Tables (now rows) (now news) (now names) ⌝ }
+    requires { ⌜ (2 ≤ n) × (n ≤ 128) × (parity ≡ rowParity n z 0) ⌝ }
     requires { ⌜ LayerWords n (now samples) z (now low) × LayerWords n (now samples) (z + 1) (now high) ⌝ }
-    requires { ⌜ Countable 243840 counts ⌝ }
-    ensures { λ r. ⌜ countOf r ≡ cellsOfLayer (countCell (insideOf n (now (samples .entry)))) n z (n - 1) (countOf counts) ⌝ }
+    requires { ⌜ Countable n (now work) 243840 counts ⌝ }
+    ensures { λ r. ⌜ held (now (work .exit)) r ≡ cellsOfLayer (countStep numbering n (insideOf n (now (samples .entry)))) n z (n - 1) (held (now (work .entry)) counts) ⌝ }
     ensures { λ r. ⌜ (r .written ≤ counts .written + 243840) × (r .made ≤ r .written) ⌝ }
 {
     let mut reached = counts;
+    let mut row = parity;
     let mut y: usize = 0;
     while y < n - 1 {
-        reached = count_row(rows, news, low, high, samples, n, y, z, reached);
+        reached = count_row(
+            numbering,
+            rows,
+            news,
+            names,
+            low,
+            high,
+            samples,
+            n,
+            y,
+            z,
+            row,
+            work,
+            reached,
+        );
+        row = 1 - row;
         y += 1;
     }
     reached
 }
 
-// The whole grid. The tables are made here and lent.
-pub fn count_joined(samples: &[f32], n: usize) -> Counts
-    requires { ⌜ (2 ≤ n) × (n ≤ 128) × (n * n * (n + 1) ≤ length (now samples)) ⌝ }
-    ensures { λ r. ⌜ countOf r ≡ cellsOfGrid (countCell (insideOf n (now (samples .entry)))) n n (record { made = 0; written = 0 }) ⌝ }
+// After the last row of a layer, the crate numbering's row that is read next is empty.
+fn end_layer(numbering: u32, work: &mut [u32], n: usize, row: usize)
+    requires { ⌜ (n ≤ 128) × (row ≤ 1) × (heldRoom n ≤ length (now work)) ⌝ }
+    ensures { λ _. ⌜ now (work .exit) ≡ cond (eqb numbering 0) (clearHeld n row n (now (work .entry))) (now (work .entry)) ⌝ }
+{
+    if numbering == 0 {
+        held_bits::clear_held(work, n, row);
+    }
+}
+
+// The whole grid. The tables are made here and lent; the joined numbering leaves working memory alone.
+pub fn count_grid(numbering: u32, samples: &[f32], n: usize, work: &mut [u32]) -> Counts
+    requires { ⌜ (2 ≤ n) × (n ≤ 128) × (n * n * (n + 1) ≤ length (now samples)) × (heldRoom n ≤ length (now work)) ⌝ }
+    ensures { λ r. ⌜ held (now (work .exit)) r ≡ countSteps numbering n (insideOf n (now (samples .entry))) n (record { work = now (work .entry); made = 0; written = 0 }) ⌝ }
     ensures { λ r. ⌜ (r .written ≤ 31211520) × (r .made ≤ r .written) ⌝ }
 {
     let rows = packed_tables::row_words();
     let news = packed_tables::new_words();
+    let names = held_bits::name_words();
     let mut low = [0u32; 512];
     let mut high = [0u32; 512];
     sign_words::fill_layer(samples, n, 0, &mut low);
@@ -127,10 +237,26 @@ pub fn count_joined(samples: &[f32], n: usize) -> Counts
         made: 0,
         written: 0,
     };
+    let mut row: usize = 0;
     let mut z: usize = 0;
     while z < n {
         sign_words::fill_layer(samples, n, z + 1, &mut high);
-        reached = count_layer(&rows, &news, &low, &high, samples, n, z, reached);
+        reached = count_layer(
+            numbering,
+            &rows,
+            &news,
+            &names,
+            &low,
+            &high,
+            samples,
+            n,
+            z,
+            row,
+            work,
+            reached,
+        );
+        row = (row + (n - 1)) % 2;
+        end_layer(numbering, work, n, row);
         low = high;
         z += 1;
     }

@@ -1,21 +1,24 @@
--- The two passes of `meshed`: what the walk over no room counts, and what the walk over the outputs leaves.
+-- The two passes of `meshed`: what is counted, and what the walk over the outputs leaves.
 use mathlib.Core.Path.{_≡_, refl, sym, ap, _∙_}
+use mathlib.Core.Bool.{true, false, cond}
+use mathlib.Core.Logic.{⊎-elim}
 use mathlib.Core.List.{List, [], _∷_, _++_, map}
 use Prim.Native.Nat.{ℕ, _+_, _*_, _≤_, _<_}
 use native.Mathlib.Nat.{zero-add}
 use native.Mathlib.Omega.{arith}
+use lib.Dec.{eqb}
 use lib.ListN.{length, getD, drop, replicate, length-replicate, getD-replicate, length-map, length-append, length-drop, List·getD-append}
-use lib.Seq.{sets, sets-eq, drop-append-seam}
+use lib.Seq.{sets-eq, drop-drop, drop-append-seam}
 use lib.Ieee.{Float}
-use borrow.Author.Tests.{ne-eqb}
+use borrow.Author.Tests.{eqb-true}
+use Rattle.walk.proofs.Bools.{bool-cases}
 use Rattle.walk_models.specs.Lent.{untouched}
-use Rattle.walk_models.specs.Owned.{Count, countCell, cellsOfGrid}
-use Rattle.walk_models.proofs.JoinedCells.{count-cells}
-use Rattle.lent_mesh.specs.declared.Counts.{Counts}
 use Rattle.lent_mesh.specs.Grid.{insideOf, positionAt, floatsOf}
 use Rattle.lent_mesh.proofs.Floats.{floatsOf-length, stored-floats}
-use Rattle.joined_edges.specs.OneCell.{countOf}
 use Rattle.grid_walk.specs.Steps.{Hand, walkSteps}
+use Rattle.held_bits.specs.HeldCell.{Held, heldRoom}
+use Rattle.grid_count.specs.Steps.{countSteps}
+use Rattle.grid_count.proofs.CountedMesh.{nothing, crate-counted, joined-counted}
 use Rattle.marching_cubes.specs.Outcome.{workRoom, Surface, surfaceOf, over}
 use Rattle.marching_cubes.proofs.Left.{LeftOf, walkSteps-left}
 
@@ -49,18 +52,6 @@ module _ (n numbering : ℕ) (samples : List Float) where
   abbrev s : Surface
   s = surfaceOf n numbering samples
 
-  -- ---- count: the walk over no room, in memory that was cleared
-  pub counted-pass : (k : ℕ) (old work left : List ℕ) (floats : List Float) (list : List ℕ) (t : Hand) → k ≡ workRoom n → workRoom n ≤ length old
-      → work ≡ cleared k old → t ≡ walkSteps numbering n samples n (untouched work floats list) → left ≡ cleared k (t .memory)
-      → (left ≡ cleared (workRoom n) old) × (t .made ≡ length (s .made)) × (t .written ≡ length (s .indices))
-  counted-pass k old work left floats list t is room first f last =
-      let e : work ≡ cleared (workRoom n) old = first ∙ ap (λ (j : ℕ). cleared j old) is in
-      let g : left ≡ cleared (workRoom n) (t .memory) = last ∙ ap (λ (j : ℕ). cleared j (t .memory)) is in
-      let l : length work ≡ length old = ap length e ∙ cleared-length (workRoom n) old room in
-      let w : LeftOf n samples s floats list work t =
-      rw f (walkSteps-left n numbering samples floats list work (omega arith) (λ z i h. rw e (cleared-at (workRoom n) old i h))) in
-      (g ∙ cleared-same (workRoom n) (t .memory) old (w .tail ∙ rw e (cleared-tail (workRoom n) old)), w .made, w .written)
-
   -- ---- fill: the walk over the outputs
   pub filled-pass : (k : ℕ) (old left : List ℕ) (floats : List Float) (list : List ℕ) (t : Hand) → k ≡ workRoom n → workRoom n ≤ length old
       → ((i : ℕ) → i < workRoom n → getD old i 0 ≡ 0) → 3 * length (s .made) ≤ length floats → length (s .indices) ≤ length list
@@ -84,14 +75,43 @@ cleared-again k work first second e f = f ∙ cleared-same k first work (ap (dro
 pub cleared-zeros : (k : ℕ) (work first : List ℕ) → first ≡ cleared k work → (i : ℕ) → i < k → getD first i 0 ≡ 0
 cleared-zeros k work first e i h = ap (λ (l : List ℕ). getD l i 0) e ∙ cleared-at k work i h
 
--- ---- the joined count by table
-pub counted-joined : (n numbering : ℕ) (samples : List Float) (r : Counts) → (numbering ≡ 0 → ⊥)
-    → countOf r ≡ cellsOfGrid (countCell (insideOf n samples)) n n (record { made = 0; written = 0 })
-    → (r .made ≡ length (surfaceOf n numbering samples .made)) × (r .written ≡ length (surfaceOf n numbering samples .indices))
+-- ---- count
+
+past : (n : ℕ) (work old : List ℕ) → drop (heldRoom n) work ≡ drop (heldRoom n) old → drop (workRoom n) work ≡ drop (workRoom n) old
+past n work old e =
+    let all : heldRoom n + (6 * (n * n) + 4 * n) ≡ workRoom n = omega arith in
+    let beyond : (l : List ℕ) → drop (6 * (n * n) + 4 * n) (drop (heldRoom n) l) ≡ drop (workRoom n) l =
+    λ l. drop-drop (6 * (n * n) + 4 * n) (heldRoom n) l ∙ ap (λ (k : ℕ). drop k l) all in
+    sym (beyond work) ∙ ap (drop (6 * (n * n) + 4 * n)) e ∙ beyond old
+
+-- from memory in which nothing is held, and cleared afterwards
+pub counted-pass : (n numbering : ℕ) (samples : List Float) (k : ℕ) (old work left : List ℕ) (t : Held) → k ≡ workRoom n → workRoom n ≤ length old
+    → work ≡ cond (eqb numbering 0) (cleared (heldRoom n) old) old → t ≡ countSteps numbering n (insideOf n samples) n (nothing work) → left ≡ cleared k (t .work)
+    → (left ≡ cleared (workRoom n) old) × (t .made ≡ length (surfaceOf n numbering samples .made)) × (t .written ≡ length (surfaceOf n numbering samples .indices))
 unfolding surfaceOf
-counted-joined n numbering samples r other e =
-    let all = e ∙ count-cells (insideOf n samples) n n in
-    rw (ne-eqb numbering 0 other) (ap (λ (t : Count). t .made) all, ap (λ (t : Count). t .written) all)
+counted-pass n numbering samples k old work left t is room first f last =
+    let g : left ≡ cleared (workRoom n) (t .work) = last ∙ ap (λ (j : ℕ). cleared j (t .work)) is in
+    ⊎-elim
+    (λ (b : eqb numbering 0 ≡ true).
+    let e : work ≡ cleared (heldRoom n) old = first ∙ rw b refl in
+    let l : length work ≡ length old = ap length e ∙ cleared-length (heldRoom n) old (omega arith) in
+    let zero : numbering ≡ 0 = eqb-true numbering 0 b in
+    let c = crate-counted n (insideOf n samples) work (omega arith) n (λ i h. rw e (cleared-at (heldRoom n) old i h)) in
+    let same : t ≡ countSteps 0 n (insideOf n samples) n (nothing work) = f ∙ ap (λ (j : ℕ). countSteps j n (insideOf n samples) n (nothing work)) zero in
+    rw (b, same) (
+      rw same at g ∙ cleared-same (workRoom n) _ old (past n _ old (c .tail ∙ rw e (cleared-tail (heldRoom n) old))),
+      c .made,
+      c .written,
+    ))
+    (λ (b : eqb numbering 0 ≡ false).
+    let e : work ≡ old = first ∙ rw b refl in
+    let c = joined-counted n (insideOf n samples) work (rw e (omega arith)) numbering b n in
+    rw (b, f) (
+      rw f at g ∙ cleared-same (workRoom n) _ old (past n _ old (c .tail ∙ ap (drop (heldRoom n)) e)),
+      c .made,
+      c .written,
+    ))
+    (bool-cases (eqb numbering 0))
 
 -- ---- a grid without a surface: nothing is written, and there was nothing to write
 

@@ -1,10 +1,13 @@
 // The extraction (`extract` of marching_cubes.rs) over lent memory: the causes in order, then count,
 // then fill. Outputs are counted first, so that a refusal leaves them as they were.
 ghost use mathlib.Core.Path.{_≡_};
+ghost use mathlib.Core.Bool.{cond};
 ghost use mathlib.Core.List.{map};
 ghost use Prim.Native.Nat.{ℕ, _+_, _*_, _≤_, _<_};
+ghost use lib.Dec.{eqb};
 ghost use lib.ListN.{length, getD, replicate};
 ghost use Rattle.lent_mesh.specs.Grid.{positionAt, floatsOf};
+ghost use Rattle.held_bits.specs.HeldCell.{heldRoom};
 ghost use Rattle.marching_cubes.specs.Outcome.{Outcome, workRoom, surfaceOf, over, left, filled, outcome};
 ghost use Rattle.marching_cubes.specs.Accepted.{Accepted};
 use lent_mesh::Counts;
@@ -59,36 +62,37 @@ fn work_room(n: usize) -> usize
     8 * (n * n) + 6 * n
 }
 
-// How many vertices and indices the grid has: the walk over no room. The working memory that the size
-// asks for is zero afterwards, whatever it held.
-fn count_by_walk(numbering: u32, samples: &[f32], n: usize, work: &mut [u32]) -> Counts
-    requires { ⌜ Accepted n (now samples) (now work) ⌝ }
-    ensures { λ r. ⌜ now (work .exit) ≡ over (replicate (workRoom n) 0) (now (work .entry)) ⌝ }
-    ensures { λ r. ⌜ (r .made ≡ length (surfaceOf n numbering (now (samples .entry)) .made)) × (r .written ≡ length (surfaceOf n numbering (now (samples .entry)) .indices)) ⌝ }
-    ensures { λ r. ⌜ (r .written ≤ 31211520) × (r .made ≤ r .written) ⌝ }
+// The words in which the crate numbering's count keeps the edges that are held.
+fn held_room(n: usize) -> usize
+    requires { ⌜ n ≤ 128 ⌝ }
+    ensures { λ r. ⌜ r ≡ heldRoom n ⌝ }
 {
-    let room = work_room(n);
-    let mut no_floats = [0.0f32; 1];
-    let mut no_words = [0u32; 1];
-    clear(work, room);
-    let counts = grid_walk::walk(numbering, samples, n, work, &mut no_floats, &mut no_words);
-    clear(work, room);
-    counts
+    2 * (n * n) + 2 * n
 }
 
-// How many vertices and indices the grid has, and the working memory as `count_by_walk` leaves it. The
-// joined numbering needs no working memory for its count.
+// The crate numbering is counted from nothing held; the joined uses no working memory for its count.
+fn hold_nothing(numbering: u32, work: &mut [u32], n: usize)
+    requires { ⌜ (n ≤ 128) × (heldRoom n ≤ length (now work)) ⌝ }
+    ensures { λ _. ⌜ now (work .exit) ≡ cond (eqb numbering 0) (over (replicate (heldRoom n) 0) (now (work .entry))) (now (work .entry)) ⌝ }
+{
+    if numbering == 0 {
+        clear(work, held_room(n));
+    }
+}
+
+// How many vertices and indices the grid has. The working memory that the size asks for is zero
+// afterwards, whatever it held.
 fn count(numbering: u32, samples: &[f32], n: usize, work: &mut [u32]) -> Counts
     requires { ⌜ Accepted n (now samples) (now work) ⌝ }
     ensures { λ r. ⌜ now (work .exit) ≡ over (replicate (workRoom n) 0) (now (work .entry)) ⌝ }
     ensures { λ r. ⌜ (r .made ≡ length (surfaceOf n numbering (now (samples .entry)) .made)) × (r .written ≡ length (surfaceOf n numbering (now (samples .entry)) .indices)) ⌝ }
     ensures { λ r. ⌜ (r .written ≤ 31211520) × (r .made ≤ r .written) ⌝ }
 {
-    if numbering == 0 {
-        return count_by_walk(numbering, samples, n, work);
-    }
-    clear(work, work_room(n));
-    grid_count::count_joined(samples, n)
+    let room = work_room(n);
+    hold_nothing(numbering, work, n);
+    let counts = grid_count::count_grid(numbering, samples, n, work);
+    clear(work, room);
+    counts
 }
 
 // The mesh is written, where there is room for it and the working memory is zero.
