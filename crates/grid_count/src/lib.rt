@@ -38,16 +38,13 @@ fn count_word(
 {
     let mut reached = counts;
     let mut rest = mask;
-    let mut i: u32 = 0;
     while rest != 0 {
-        let skipped = u32::trailing_zeros(rest);
-        i += skipped;
+        let i = u32::trailing_zeros(rest);
         let x = 32 * k + (i as usize);
         let case = sign_words::case_of(quad, i);
         let here = joined_edges::class_at(class, x);
         reached = joined_edges::joined_counts(rows, news, case, here, reached);
-        rest = (rest >> skipped) >> 1;
-        i += 1;
+        rest = rest & (rest - 1);
     }
     reached
 }

@@ -119,10 +119,8 @@ fn word_cells(
 {
     let mut reached = counts;
     let mut rest = mask;
-    let mut i: u32 = 0;
     while rest != 0 {
-        let skipped = u32::trailing_zeros(rest);
-        i += skipped;
+        let i = u32::trailing_zeros(rest);
         let x = 32 * k + (i as usize);
         let case = sign_words::case_of(quad, i);
         let here = joined_edges::class_at(class, x);
@@ -145,8 +143,7 @@ fn word_cells(
             indices,
             reached,
         );
-        rest = (rest >> skipped) >> 1;
-        i += 1;
+        rest = rest & (rest - 1);
     }
     reached
 }

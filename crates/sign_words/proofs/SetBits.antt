@@ -20,7 +20,7 @@ below-under zero n (suc j) t e rest h =
 below-under (suc d) n j t e rest h = absurd (not-suc-le-zero h)
 
 -- the bits below it are 0
-trailing-below : (k n j : ℕ) → j < trailingZeros k n → bitAt n j ≡ 0
+pub trailing-below : (k n j : ℕ) → j < trailingZeros k n → bitAt n j ≡ 0
 unfolding trailingZeros
 trailing-below zero n j h = absurd (not-suc-le-zero h)
 trailing-below (suc k) n j h = below-under (n % 2) n j (trailingZeros k (n / 2)) refl (trailing-below k (n / 2)) h
@@ -33,7 +33,7 @@ top-under zero n k t e p l rest =
 top-under (suc d) n k t e p l rest = (omega arith, omega arith)
 
 -- it stands inside a number that is not 0
-trailing-top : (k n : ℕ) → 0 < n → n < 2 ^ k → (trailingZeros k n < k) × (2 ^ trailingZeros k n ≤ n)
+pub trailing-top : (k n : ℕ) → 0 < n → n < 2 ^ k → (trailingZeros k n < k) × (2 ^ trailingZeros k n ≤ n)
 unfolding trailingZeros
 trailing-top zero n p l = absurd (omega arith)
 trailing-top (suc k) n p l = top-under (n % 2) n k (trailingZeros k (n / 2)) refl p l (trailing-top k (n / 2))
