@@ -53,8 +53,8 @@ fn count_word(
 fn count_row(
     rows: &[u64; 256],
     news: &[u64; 2048],
-    low: &[u32; 512],
-    high: &[u32; 512],
+    low: &[u32; 513],
+    high: &[u32; 513],
     samples: &[f32],
     n: usize,
     y: usize,
@@ -86,8 +86,8 @@ fn count_row(
 fn count_layer(
     rows: &[u64; 256],
     news: &[u64; 2048],
-    low: &[u32; 512],
-    high: &[u32; 512],
+    low: &[u32; 513],
+    high: &[u32; 513],
     samples: &[f32],
     n: usize,
     z: usize,
@@ -117,8 +117,8 @@ pub fn count_joined(samples: &[f32], n: usize) -> Counts
 {
     let rows = packed_tables::row_words();
     let news = packed_tables::new_words();
-    let mut low = [0u32; 512];
-    let mut high = [0u32; 512];
+    let mut low = [0u32; 513];
+    let mut high = [0u32; 513];
     sign_words::fill_layer(samples, n, 0, &mut low);
     let mut reached = Counts {
         made: 0,

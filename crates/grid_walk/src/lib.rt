@@ -155,8 +155,8 @@ fn row_cells(
     news: &[u64; 2048],
     coordinates: &[f32; 129],
     slots: &[usize; 12],
-    low: &[u32; 512],
-    high: &[u32; 512],
+    low: &[u32; 513],
+    high: &[u32; 513],
     samples: &[f32],
     n: usize,
     y: usize,
@@ -215,8 +215,8 @@ fn layer_cells(
     rows: &[u64; 256],
     news: &[u64; 2048],
     coordinates: &[f32; 129],
-    low: &[u32; 512],
-    high: &[u32; 512],
+    low: &[u32; 513],
+    high: &[u32; 513],
     samples: &[f32],
     n: usize,
     z: usize,
@@ -290,8 +290,8 @@ pub fn walk(
     let rows = packed_tables::row_words();
     let news = packed_tables::new_words();
     let coordinates = lent_mesh::coordinates(n);
-    let mut low = [0u32; 512];
-    let mut high = [0u32; 512];
+    let mut low = [0u32; 513];
+    let mut high = [0u32; 513];
     sign_words::fill_layer(samples, n, 0, &mut low);
     let mut reached = Counts {
         made: 0,

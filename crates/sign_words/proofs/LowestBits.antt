@@ -2,16 +2,17 @@
 -- For any state and any step that is idle at a 0 bit, as in SetBits.antt, whose laws it cites.
 use mathlib.Core.Path.{_≡_, refl, sym, _∙_, ap, subst}
 use Prim.Native.Nat.{ℕ, zero, suc, _+_, _-_, _*_, _/_, _%_, _^_, _≤_, _<_, min}
-use native.Mathlib.Nat.{pow-suc, div-one, zero-div, mul-one, mul-div-cancel, div-mul-le-self, lt-of-lt-of-le, lt-of-le-of-lt, le-trans, le-of-eq, not-suc-le-zero, le-of-suc-le-suc}
+use native.Mathlib.Nat.{pow-suc, div-one, zero-div, mul-one, mul-div-cancel, div-mul-le-self, lt-of-lt-of-le, lt-of-le-of-lt, le-trans, le-of-eq}
 use native.Mathlib.Numerals.{add-one, one-add}
 use native.Mathlib.Omega.{arith}
 use native.Mathlib.Decide.{decLt}
 use lib.Pow.{shr-shr, pow-mono, pow-pos}
-use lib.Bits.{bitAnd, and-step, and-self, and-le-r, shifted-half, shifted-even}
+use lib.Bits.{bitAnd, and-step, and-self, and-le-r}
 use lib.Count.{trailingZeros, under}
 use Rattle.marching_cubes_tables.specs.Rule.{bitAt}
 use Rattle.walk.specs.Walk.{times}
 use Rattle.walk_models.specs.Owned.{Count}
+use Rattle.sign_words.proofs.OneBit.{multiple-bit}
 use Rattle.sign_words.proofs.SetBits.{trailing-below, trailing-top, skip, to-end}
 
 -- ---- the lowest set bit
@@ -61,15 +62,6 @@ pub gone-less : (m : ℕ) → 0 < m → bitAnd m (m - 1) < m
 gone-less m p = omega (arith, and-le-r m (m - 1))
 
 -- ---- what is left of the word
-
-multiple-bit : (c i j : ℕ) → j < i → bitAt (c * 2 ^ i) j ≡ 0
-multiple-bit c zero j h = absurd (not-suc-le-zero h)
-multiple-bit c (suc i) zero h = ap (λ (x : ℕ). x % 2) (div-one (c * 2 ^ suc i)) ∙ shifted-even c i
-multiple-bit c (suc i) (suc j) h =
-    ap (λ (x : ℕ). bitAt (c * 2 ^ suc i) x) (sym (one-add j))
-    ∙ ap (λ (x : ℕ). x % 2) (sym (shr-shr (c * 2 ^ suc i) 1 j))
-    ∙ ap (λ (x : ℕ). bitAt x j) (shifted-half c i)
-    ∙ multiple-bit c i j (le-of-suc-le-suc h)
 
 -- from bit i on
 above : (mask i j : ℕ) → mask / 2 ^ i * 2 ^ i / 2 ^ (i + j) ≡ mask / 2 ^ (i + j)

@@ -58,11 +58,11 @@ module _ (samples : List Float) (start n k : ℕ) where
 module _ (n : ℕ) (samples : List Float) (z : ℕ) where
   -- the first words of row y are there, and what stands before the row is as it was
   pub record RowBegun (y k : ℕ) (before after : List ℕ) : Type 0 where
-    pub long : length after ≡ 512
+    pub long : length after ≡ 513
     pub words : (j : ℕ) → j < k → getD after (4 * y + j) 0 ≡ wordOf (λ i. insideRow n samples y z (32 * j + i)) 32
     pub kept : (i : ℕ) → i < 4 * y → getD after i 0 ≡ getD before i 0
 
-  pub row-none : (y : ℕ) (before : List ℕ) → length before ≡ 512 → RowBegun y 0 before before
+  pub row-none : (y : ℕ) (before : List ℕ) → length before ≡ 513 → RowBegun y 0 before before
   row-none y before h = record { long = h; words = λ j l. absurd (omega arith); kept = λ i l. refl }
 
   pub row-suc : (y k word : ℕ) (before after : List ℕ) → y < 128 → k < 4 → RowBegun y k before after

@@ -60,7 +60,7 @@ fn row_word(samples: &[f32], start: usize, n: usize, k: usize) -> u32
 
 // The four words of row y of the sample layer z.
 fn fill_row(samples: &[f32], n: usize, y: usize, z: usize, words: &mut [u32])
-    requires { ⌜ (n ≤ 128) × (y < n) × (n * n * (z + 1) ≤ length (now samples)) × (length (now words) ≡ 512) ⌝ }
+    requires { ⌜ (n ≤ 128) × (y < n) × (n * n * (z + 1) ≤ length (now samples)) × (length (now words) ≡ 513) ⌝ }
     ensures { λ _. ⌜ RowFilled n (now (samples .entry)) y z (now (words .entry)) (now (words .exit)) ⌝ }
 {
     let start = (z * n + y) * n;
@@ -72,7 +72,7 @@ fn fill_row(samples: &[f32], n: usize, y: usize, z: usize, words: &mut [u32])
 }
 
 // The words of the sample layer z.
-pub fn fill_layer(samples: &[f32], n: usize, z: usize, words: &mut [u32; 512])
+pub fn fill_layer(samples: &[f32], n: usize, z: usize, words: &mut [u32; 513])
     requires { ⌜ (2 ≤ n) × (n ≤ 128) × (n * n * (z + 1) ≤ length (now samples)) ⌝ }
     ensures { λ _. ⌜ LayerWords n (now (samples .entry)) z (now (words .exit)) ⌝ }
 {
@@ -91,28 +91,25 @@ pub struct Quad {
     pub d: u64,
 }
 
-fn word_at(words: &[u32; 512], at: usize) -> u32
-    requires { ⌜ at < 512 ⌝ }
+fn word_at(words: &[u32; 513], at: usize) -> u32
+    requires { ⌜ at < 513 ⌝ }
     ensures { λ r. ⌜ r ≡ getD (now (words .entry)) at 0 ⌝ }
 {
     words[at]
 }
 
-// Word k of row y, and the next word above it.
-fn long_word(words: &[u32; 512], y: usize, k: usize) -> u64
+// Word k of row y, and the next word above it. Above a row's fourth word that is the next row's first,
+// which no cell looks at; a test for it would cost more than the word.
+fn long_word(words: &[u32; 513], y: usize, k: usize) -> u64
     requires { ⌜ (y < 128) × (k < 4) ⌝ }
     ensures { λ r. ⌜ LongWordFrom (now (words .entry)) y k r ⌝ }
 {
     let at = 4 * y + k;
     let low = word_at(words, at) as u64;
-    if k < 3 {
-        low | ((word_at(words, at + 1) as u64) << 32)
-    } else {
-        low
-    }
+    low | ((word_at(words, at + 1) as u64) << 32)
 }
 
-pub fn quad_at(low: &[u32; 512], high: &[u32; 512], y: usize, k: usize) -> Quad
+pub fn quad_at(low: &[u32; 513], high: &[u32; 513], y: usize, k: usize) -> Quad
     requires { ⌜ (y < 127) × (k < 4) ⌝ }
     ensures { λ r. ⌜ QuadFrom (now (low .entry)) (now (high .entry)) y k r ⌝ }
 {
@@ -165,7 +162,7 @@ pub fn case_of(q: Quad, i: u32) -> usize
 
 // Whether the rows y and y + 1 of both layers are outside throughout: no cell between them visits
 // anything. The count is written out, so that the loop can take several words at a time.
-pub fn outside(low: &[u32; 512], high: &[u32; 512], y: usize) -> bool
+pub fn outside(low: &[u32; 513], high: &[u32; 513], y: usize) -> bool
     requires { ⌜ y < 127 ⌝ }
     ensures { λ r. ⌜ OutsideFrom (now (low .entry)) (now (high .entry)) y r ⌝ }
 {
