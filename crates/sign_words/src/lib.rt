@@ -2,10 +2,10 @@
 // four words say of the 32 cells between their rows. Samples are read here once for each layer, so a
 // walk looks only at the cells that the surface crosses. Sizes are 2 to 128.
 ghost use mathlib.Core.Path.{_≡_};
-ghost use Prim.Native.Nat.{ℕ, _+_, _*_, _^_, _%_, _≤_, _<_};
+ghost use Prim.Native.Nat.{ℕ, _+_, _*_, _/_, _^_, _%_, _≤_, _<_};
 ghost use lib.ListN.{length, getD};
 ghost use Rattle.marching_cubes_impl.specs.Sample.{inside};
-ghost use Rattle.sign_words.specs.Words.{signWord, wordFrom, LayerWords, RowFilled};
+ghost use Rattle.sign_words.specs.Words.{signWord, wordFrom, LayerWords, WordsFrom, RowFilled};
 ghost use Rattle.sign_words.specs.Cells.{LongWordFrom, QuadFrom, cellsIn, ActiveFrom, CaseFrom, OutsideFrom};
 
 // The sign of a sample. A NaN is outside.
@@ -43,18 +43,42 @@ fn part_word(samples: &[f32], at: usize, count: usize) -> u32
     word
 }
 
-// Word k of the row of n samples that starts at a place; past the row's end the bits are 0.
-fn row_word(samples: &[f32], start: usize, n: usize, k: usize) -> u32
-    requires { ⌜ (k < 4) × (n ≤ 128) × (start + n ≤ length (now samples)) ⌝ }
+// Word k of the row of n samples that starts at a place, where it is not whole; past the row's end the
+// bits are 0.
+fn end_word(samples: &[f32], start: usize, n: usize, k: usize) -> u32
+    requires { ⌜ (k < 4) × (n ≤ 128) × (start + n ≤ length (now samples)) × (n < 32 * k + 32) ⌝ }
     ensures { λ r. ⌜ r ≡ wordFrom (now (samples .entry)) start n k ⌝ }
 {
     let first = 32 * k;
-    if first + 32 <= n {
-        whole_word(samples, start + first)
-    } else if first < n {
+    if first < n {
         part_word(samples, start + first, n - first)
     } else {
         0
+    }
+}
+
+// The whole words of row y. They have a loop of their own, since most words are whole.
+fn fill_whole(samples: &[f32], start: usize, n: usize, y: usize, words: &mut [u32])
+    requires { ⌜ (n ≤ 128) × (y < n) × (start + n ≤ length (now samples)) × (length (now words) ≡ 513) ⌝ }
+    ensures { λ _. ⌜ WordsFrom n (now (samples .entry)) start y 0 (n / 32) (now (words .entry)) (now (words .exit)) ⌝ }
+{
+    let whole = n / 32;
+    let mut k: usize = 0;
+    while k < whole {
+        words[4 * y + k] = whole_word(samples, start + 32 * k);
+        k += 1;
+    }
+}
+
+// The others.
+fn fill_end(samples: &[f32], start: usize, n: usize, y: usize, words: &mut [u32])
+    requires { ⌜ (n ≤ 128) × (y < n) × (start + n ≤ length (now samples)) × (length (now words) ≡ 513) ⌝ }
+    ensures { λ _. ⌜ WordsFrom n (now (samples .entry)) start y (n / 32) 4 (now (words .entry)) (now (words .exit)) ⌝ }
+{
+    let mut k = n / 32;
+    while k < 4 {
+        words[4 * y + k] = end_word(samples, start, n, k);
+        k += 1;
     }
 }
 
@@ -64,11 +88,8 @@ fn fill_row(samples: &[f32], n: usize, y: usize, z: usize, words: &mut [u32])
     ensures { λ _. ⌜ RowFilled n (now (samples .entry)) y z (now (words .entry)) (now (words .exit)) ⌝ }
 {
     let start = (z * n + y) * n;
-    let mut k: usize = 0;
-    while k < 4 {
-        words[4 * y + k] = row_word(samples, start, n, k);
-        k += 1;
-    }
+    fill_whole(samples, start, n, y, words);
+    fill_end(samples, start, n, y, words);
 }
 
 // The words of the sample layer z.
