@@ -1,7 +1,7 @@
 # make demo          builds the library and the planner, and shows a result
 # make test          compares with the Rust, tests the programs and the C boundary, and proves everything; its last line is the prover's count
 # make oracle N=..   compares that many small grids, and one in 5,000 as many large ones, with the Rust (SEED=.. for other grids)
-# make bench         times the library beside the Rust and writes docs/BENCH.md; make bench-peers times VTK and scikit-image for it
+# make bench         times the library beside the Rust, counts its instructions and writes docs/BENCH.md; make bench-peers times VTK and scikit-image for it
 .DELETE_ON_ERROR:
 .PHONY: demo test bench bench-peers fuzz setup layout names evidence mutants unchanged header oracle archive listing planner prove crate-table
 
@@ -83,6 +83,9 @@ prove: setup
 # the library for this machine beside the Rust, in one process; peers that were timed before are listed with it
 bench: build/bench/release/bench
 	build/bench/release/bench run docs/BENCH.md build/bench/peers.md
+	build/bench/release/instructions >build/bench/instructions.md
+	cat build/bench/instructions.md
+	(echo; cat build/bench/instructions.md) >>docs/BENCH.md
 
 bench-peers: build/bench/release/bench
 	bench/peers build/bench/release/bench build/bench

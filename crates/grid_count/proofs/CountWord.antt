@@ -2,10 +2,11 @@
 use mathlib.Core.Path.{_≡_, refl, ap, ap₂, _∙_}
 use mathlib.Core.Bool.{Bool, true, false, cond}
 use mathlib.Core.List.{List, []}
-use Prim.Native.Nat.{ℕ, _+_, _-_, _*_, _/_, _^_, _≤_, _<_}
+use Prim.Native.Nat.{ℕ, _+_, _-_, _*_, _^_, _≤_, _<_}
 use native.Mathlib.Nat.{add-zero}
 use native.Mathlib.Omega.{arith}
 use borrow.Author.Tests.{eq-eqb, ne-eqb}
+use lib.Bits.{bitAnd}
 use lib.Count.{trailingZeros}
 use lib.Dec.{eqb}
 use lib.ListN.{getD}
@@ -19,7 +20,8 @@ use Rattle.lent_mesh.specs.declared.Counts.{Counts}
 use Rattle.lent_mesh.specs.Grid.{insideOf}
 use Rattle.sign_words.specs.Cells.{cellsIn, activeWord}
 use Rattle.sign_words.proofs.ActiveCells.{activeWord-lt, activeWord-idle}
-use Rattle.sign_words.proofs.Turns.{AtBit, found-cell, at-next, at-last, times-idle}
+use Rattle.sign_words.proofs.LowestBits.{Onward, onward-found, onward-next, onward-last}
+use Rattle.sign_words.proofs.Turns.{times-idle}
 use Rattle.joined_edges.specs.OneCell.{countOf}
 use Rattle.grid_walk.specs.Steps.{layerParity, rowParity}
 use Rattle.held_bits.specs.Names.{nameWords}
@@ -64,23 +66,26 @@ module _ (numbering n : ℕ) (samples : List Float) (z y k : ℕ) where
   abbrev pub wordCount : ℕ → Held → Held
   wordCount i t = countStep numbering n (insideOf n samples) z y (32 * k + i) t
 
-  -- the cells of the word before cell i are counted
-  abbrev pub Counted : Held → Held → ℕ → ℕ → ℕ → Type 0
-  Counted start here mask rest i = AtBit countIn wordCount (cellsIn n k) start here mask rest i
+  -- the cells of the word before the lowest bit of `rest` are counted
+  abbrev pub Counted : Held → Held → ℕ → ℕ → Type 0
+  Counted start here mask rest = Onward countIn wordCount (cellsIn n k) start here mask rest
 
-  module _ (start here : Held) (mask rest i : ℕ) (at : Counted start here mask rest i) (active : mask ≡ activeWord n samples y z k) where
+  module _ (start here : Held) (mask rest : ℕ) (on : Counted start here mask rest) (active : mask ≡ activeWord n samples y z k) where
+    small : mask < 2 ^ cellsIn n k
+    small = rw active (activeWord-lt n samples y z k)
+
     idle : (j : ℕ) → j < cellsIn n k → bitAt mask j ≡ 0 → wordCount j (times j wordCount start) ≡ times j wordCount start
     idle j l e = countStep-idle numbering n (insideOf n samples) z y (32 * k + j) (times j wordCount start) (activeWord-idle n samples y z k j l (rw active at e))
 
-    pub counted-found : 0 < rest → (trailingZeros 32 rest < 32) × (i + trailingZeros 32 rest < cellsIn n k)
-    counted-found p = found-cell countIn wordCount (cellsIn n k) start mask here rest i at (omega arith) (rw active (activeWord-lt n samples y z k)) p
+    pub counted-found : 0 < rest → (trailingZeros 32 rest < cellsIn n k) × (here .written ≤ start .written + 15 * trailingZeros 32 rest)
+    counted-found p = onward-found countIn wordCount (cellsIn n k) start mask here rest on (omega arith) small p
 
-    pub counted-next : (next : Held) → 0 < rest → next ≡ wordCount (i + trailingZeros 32 rest) here → next .written ≤ here .written + 15 → next .made ≤ next .written
-        → Counted start next mask (rest / 2 ^ trailingZeros 32 rest / 2 ^ 1) (i + trailingZeros 32 rest + 1)
-    counted-next next p e g o = at-next countIn wordCount (cellsIn n k) start mask here rest i at idle next (counted-found p .1) e g o
+    pub counted-next : (next : Held) → 0 < rest → next ≡ wordCount (trailingZeros 32 rest) here → next .written ≤ here .written + 15 → next .made ≤ next .written
+        → Counted start next mask (bitAnd rest (rest - 1))
+    counted-next next p e g o = onward-next countIn wordCount (cellsIn n k) start mask here rest on (omega arith) small idle next p e g o
 
     pub counted-last : rest ≡ 0 → here ≡ times (cellsIn n k) wordCount start
-    counted-last e = at-last countIn wordCount (cellsIn n k) start mask here rest i at idle e
+    counted-last e = onward-last countIn wordCount (cellsIn n k) start mask here rest on (omega arith) small idle e
 
 -- a row of cells that visit nothing
 pub row-idle : (numbering n : ℕ) (samples : List Float) (z y : ℕ) (s : Held) → ((x : ℕ) → x + 1 < n → cellEdges (insideOf n samples) x y z ≡ [])

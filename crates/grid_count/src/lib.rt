@@ -81,10 +81,8 @@ fn count_word(
     let mut made = counts.made;
     let mut written = counts.written;
     let mut rest = mask;
-    let mut i: u32 = 0;
     while rest != 0 {
-        let skipped = u32::trailing_zeros(rest);
-        i += skipped;
+        let i = u32::trailing_zeros(rest);
         let x = 32 * k + (i as usize);
         let case = sign_words::case_of(quad, i);
         let next = count_cell(
@@ -104,8 +102,7 @@ fn count_word(
         );
         made = next.made;
         written = next.written;
-        rest = (rest >> skipped) >> 1;
-        i += 1;
+        rest = rest & (rest - 1);
     }
     Counts { made, written }
 }
@@ -116,8 +113,8 @@ fn count_row(
     rows: &[u64; 256],
     news: &[u64; 2048],
     names: &[u32; 256],
-    low: &[u32; 512],
-    high: &[u32; 512],
+    low: &[u32; 513],
+    high: &[u32; 513],
     samples: &[f32],
     n: usize,
     y: usize,
@@ -170,8 +167,8 @@ fn count_layer(
     rows: &[u64; 256],
     news: &[u64; 2048],
     names: &[u32; 256],
-    low: &[u32; 512],
-    high: &[u32; 512],
+    low: &[u32; 513],
+    high: &[u32; 513],
     samples: &[f32],
     n: usize,
     z: usize,
@@ -230,8 +227,8 @@ pub fn count_grid(numbering: u32, samples: &[f32], n: usize, work: &mut [u32]) -
     let rows = packed_tables::row_words();
     let news = packed_tables::new_words();
     let names = held_bits::name_words();
-    let mut low = [0u32; 512];
-    let mut high = [0u32; 512];
+    let mut low = [0u32; 513];
+    let mut high = [0u32; 513];
     sign_words::fill_layer(samples, n, 0, &mut low);
     let mut reached = Counts {
         made: 0,

@@ -2,9 +2,10 @@
 use mathlib.Core.Path.{_≡_, refl, sym, ap, _∙_}
 use mathlib.Core.Bool.{Bool, true, false, cond}
 use mathlib.Core.List.{List, []}
-use Prim.Native.Nat.{ℕ, zero, suc, _+_, _-_, _*_, _/_, _^_, _≤_, _<_}
+use Prim.Native.Nat.{ℕ, zero, suc, _+_, _-_, _*_, _^_, _≤_, _<_}
 use native.Mathlib.Omega.{arith}
 use lib.Dec.{eqb}
+use lib.Bits.{bitAnd}
 use lib.Count.{trailingZeros}
 use lib.Ieee.{Float}
 use Rattle.marching_cubes_tables.specs.Rule.{bitAt}
@@ -15,7 +16,8 @@ use Rattle.lent_mesh.specs.Grid.{insideOf}
 use Rattle.lent_mesh.specs.Stored.{storeAt}
 use Rattle.sign_words.specs.Cells.{cellsIn, activeWord}
 use Rattle.sign_words.proofs.ActiveCells.{activeWord-lt, activeWord-idle}
-use Rattle.sign_words.proofs.Turns.{AtBit, found-cell, at-next, at-last, times-idle}
+use Rattle.sign_words.proofs.LowestBits.{Onward, onward-found, onward-next, onward-last}
+use Rattle.sign_words.proofs.Turns.{times-idle}
 use Rattle.grid_walk.specs.Steps.{Hand, border, unborder, layerParity, rowParity, cellStep}
 
 -- a cell that visits nothing is passed over
@@ -37,23 +39,26 @@ module _ (numbering n : ℕ) (samples : List Float) (z y k : ℕ) where
   abbrev pub wordStep : ℕ → Hand → Hand
   wordStep i t = cellStep numbering n samples z y (32 * k + i) t
 
-  -- the cells of the word before cell i are done
-  abbrev pub Walked : Hand → Hand → ℕ → ℕ → ℕ → Type 0
-  Walked start here mask rest i = AtBit handCount wordStep (cellsIn n k) start here mask rest i
+  -- the cells of the word before the lowest bit of `rest` are done
+  abbrev pub Walked : Hand → Hand → ℕ → ℕ → Type 0
+  Walked start here mask rest = Onward handCount wordStep (cellsIn n k) start here mask rest
 
-  module _ (start here : Hand) (mask rest i : ℕ) (at : Walked start here mask rest i) (active : mask ≡ activeWord n samples y z k) where
+  module _ (start here : Hand) (mask rest : ℕ) (on : Walked start here mask rest) (active : mask ≡ activeWord n samples y z k) where
+    small : mask < 2 ^ cellsIn n k
+    small = rw active (activeWord-lt n samples y z k)
+
     idle : (j : ℕ) → j < cellsIn n k → bitAt mask j ≡ 0 → wordStep j (times j wordStep start) ≡ times j wordStep start
     idle j l e = cellStep-idle numbering n samples z y (32 * k + j) (times j wordStep start) (activeWord-idle n samples y z k j l (rw active at e))
 
-    pub walked-found : 0 < rest → (trailingZeros 32 rest < 32) × (i + trailingZeros 32 rest < cellsIn n k)
-    walked-found p = found-cell handCount wordStep (cellsIn n k) start mask here rest i at (omega arith) (rw active (activeWord-lt n samples y z k)) p
+    pub walked-found : 0 < rest → (trailingZeros 32 rest < cellsIn n k) × (here .written ≤ start .written + 15 * trailingZeros 32 rest)
+    walked-found p = onward-found handCount wordStep (cellsIn n k) start mask here rest on (omega arith) small p
 
-    pub walked-next : (next : Hand) → 0 < rest → next ≡ wordStep (i + trailingZeros 32 rest) here → next .written ≤ here .written + 15 → next .made ≤ next .written
-        → Walked start next mask (rest / 2 ^ trailingZeros 32 rest / 2 ^ 1) (i + trailingZeros 32 rest + 1)
-    walked-next next p e g o = at-next handCount wordStep (cellsIn n k) start mask here rest i at idle next (walked-found p .1) e g o
+    pub walked-next : (next : Hand) → 0 < rest → next ≡ wordStep (trailingZeros 32 rest) here → next .written ≤ here .written + 15 → next .made ≤ next .written
+        → Walked start next mask (bitAnd rest (rest - 1))
+    walked-next next p e g o = onward-next handCount wordStep (cellsIn n k) start mask here rest on (omega arith) small idle next p e g o
 
     pub walked-last : rest ≡ 0 → here ≡ times (cellsIn n k) wordStep start
-    walked-last e = at-last handCount wordStep (cellsIn n k) start mask here rest i at idle e
+    walked-last e = onward-last handCount wordStep (cellsIn n k) start mask here rest on (omega arith) small idle e
 
 -- a row of cells that visit nothing
 pub row-idle : (numbering n : ℕ) (samples : List Float) (z y : ℕ) (s : Hand) → ((x : ℕ) → x + 1 < n → cellEdges (insideOf n samples) x y z ≡ [])

@@ -119,10 +119,8 @@ fn word_cells(
 {
     let mut reached = counts;
     let mut rest = mask;
-    let mut i: u32 = 0;
     while rest != 0 {
-        let skipped = u32::trailing_zeros(rest);
-        i += skipped;
+        let i = u32::trailing_zeros(rest);
         let x = 32 * k + (i as usize);
         let case = sign_words::case_of(quad, i);
         let here = joined_edges::class_at(class, x);
@@ -145,8 +143,7 @@ fn word_cells(
             indices,
             reached,
         );
-        rest = (rest >> skipped) >> 1;
-        i += 1;
+        rest = rest & (rest - 1);
     }
     reached
 }
@@ -158,8 +155,8 @@ fn row_cells(
     news: &[u64; 2048],
     coordinates: &[f32; 129],
     slots: &[usize; 12],
-    low: &[u32; 512],
-    high: &[u32; 512],
+    low: &[u32; 513],
+    high: &[u32; 513],
     samples: &[f32],
     n: usize,
     y: usize,
@@ -218,8 +215,8 @@ fn layer_cells(
     rows: &[u64; 256],
     news: &[u64; 2048],
     coordinates: &[f32; 129],
-    low: &[u32; 512],
-    high: &[u32; 512],
+    low: &[u32; 513],
+    high: &[u32; 513],
     samples: &[f32],
     n: usize,
     z: usize,
@@ -293,8 +290,8 @@ pub fn walk(
     let rows = packed_tables::row_words();
     let news = packed_tables::new_words();
     let coordinates = lent_mesh::coordinates(n);
-    let mut low = [0u32; 512];
-    let mut high = [0u32; 512];
+    let mut low = [0u32; 513];
+    let mut high = [0u32; 513];
     sign_words::fill_layer(samples, n, 0, &mut low);
     let mut reached = Counts {
         made: 0,

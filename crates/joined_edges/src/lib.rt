@@ -2,7 +2,7 @@
 // the numbers of its row's edges are written as indices. Both lists come packed, a word for a cell.
 ghost use mathlib.Core.Path.{_≡_};
 ghost use mathlib.Core.List.{List};
-ghost use Prim.Native.Nat.{ℕ, _+_, _*_, _^_, _≤_, _<_};
+ghost use Prim.Native.Nat.{ℕ, _+_, _*_, _%_, _^_, _≤_, _<_};
 ghost use lib.Dec.{eqb};
 ghost use lib.ListN.{length, getD};
 ghost use lib.Ieee.{Float};
@@ -79,33 +79,46 @@ fn make_all(
     Counts { made, written }
 }
 
-// The numbers of the edges of the list are the next indices.
+// The number of the first edge of a list.
+fn first_number(slots: &[usize; 12], at: usize, list: u64, work: &[u32]) -> u32
+    requires { ⌜ (list % 16 < 12) × (at + getD (now slots) (list % 16) 0 < length (now work)) ⌝ }
+    ensures { λ r. ⌜ r ≡ getD (now (work .entry)) (at + getD (now (slots .entry)) (list % 16) 0) 0 ⌝ }
+{
+    let edge = (list % 16) as usize;
+    let place = at + slots[edge];
+    work[place]
+}
+
+// The numbers of the edges of the list are the next indices, three at a time.
 fn name_all(
     slots: &[usize; 12],
     at: usize,
     list: u64,
-    count: usize,
+    triangles: usize,
     work: &[u32],
     indices: &mut [u32],
     counts: Counts,
 ) -> Counts
-    requires { ⌜ Edges (unpacked count list) × (count ≤ 15) ⌝ }
+    requires { ⌜ Edges (unpacked (3 * triangles) list) × (3 * triangles ≤ 15) ⌝ }
     requires { ⌜ ((e : ℕ) → e < 12 → at + getD (now slots) e 0 < length (now work)) × (counts .written + 15 < 2 ^ 32) ⌝ }
     ensures { λ r. ⌜ ((n x y z : ℕ) (store : Visit → ℕ → List Float → List Float) (b : List Float) → SlotsFrom at (now (slots .entry)) n x y z
         → inHand (now (work .entry)) b (now (indices .exit)) r
-        ≡ each (nameEdge store n z y x) (unpacked count list) (inHand (now (work .entry)) b (now (indices .entry)) counts)) ⌝ }
-    ensures { λ r. ⌜ (r .made ≡ counts .made) × (r .written ≡ counts .written + count) ⌝ }
+        ≡ each (nameEdge store n z y x) (unpacked (3 * triangles) list) (inHand (now (work .entry)) b (now (indices .entry)) counts)) ⌝ }
+    ensures { λ r. ⌜ (r .made ≡ counts .made) × (r .written ≡ counts .written + 3 * triangles) ⌝ }
 {
     let made = counts.made;
     let mut written = counts.written;
     let mut rest = list;
-    let mut left = count;
+    let mut left = triangles;
     while 0 < left {
-        let edge = (rest % 16) as usize;
-        let place = at + slots[edge];
-        lent_mesh::put_index(indices, written, work[place]);
-        written += 1;
-        rest = rest / 16;
+        let second = rest / 16;
+        let third = second / 16;
+        let a = first_number(slots, at, rest, work);
+        let b = first_number(slots, at, second, work);
+        let c = first_number(slots, at, third, work);
+        lent_mesh::put_three(indices, written, a, b, c);
+        written += 3;
+        rest = third / 16;
         left -= 1;
     }
     Counts { made, written }
@@ -168,7 +181,7 @@ pub fn joined_cell(
         slots,
         at,
         row % 0x1000_0000_0000_0000,
-        3 * ((row >> 60) as usize),
+        (row >> 60) as usize,
         work,
         indices,
         made,

@@ -125,3 +125,28 @@ pub fn put_index(indices: &mut [u32], place: u32, number: u32)
         indices[at] = number;
     }
 }
+
+fn store_three(indices: &mut [u32], at: usize, a: u32, b: u32, c: u32)
+    requires { ⌜ at + 2 < length (now indices) ⌝ }
+    ensures { λ _. ⌜ now (indices .exit) ≡ set (set (set (now (indices .entry)) at a) (at + 1) b) (at + 2) c ⌝ }
+{
+    indices[at] = a;
+    indices[at + 1] = b;
+    indices[at + 2] = c;
+}
+
+// The indices of a triangle are put, each where there is room for it. Where there is room for all of
+// them one test suffices.
+pub fn put_three(indices: &mut [u32], place: u32, a: u32, b: u32, c: u32)
+    requires { ⌜ place + 2 < 2 ^ 32 ⌝ }
+    ensures { λ _. ⌜ now (indices .exit) ≡ set (set (set (now (indices .entry)) place a) (place + 1) b) (place + 2) c ⌝ }
+{
+    let at = place as usize;
+    if at + 2 < indices.len() {
+        store_three(indices, at, a, b, c);
+    } else {
+        put_index(indices, place, a);
+        put_index(indices, place + 1, b);
+        put_index(indices, place + 2, c);
+    }
+}

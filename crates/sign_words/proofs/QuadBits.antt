@@ -6,21 +6,19 @@ use mathlib.Core.List.{List, [], _∷_}
 use Prim.Native.Nat.{ℕ, zero, suc, _+_, _*_, _-_, _/_, _%_, _^_, _≤_, _<_}
 use native.Mathlib.Nat.{add-assoc, suc-inj}
 use native.Mathlib.Omega.{arith}
-use lib.Dec.{T, eqb, ltb, eqb→eq}
+use lib.Dec.{T, eqb, eqb→eq}
 use lib.ListN.{length, getD}
 use lib.Pow.{shr-shr, mod-mod-pow}
 use lib.Bits.{bitOr, bitAnd, bitXor}
 use lib.Ieee.{Float}
-use borrow.Author.Tests.{lt-ltb}
 use Rattle.marching_cubes_tables.specs.Rule.{bitAt}
 use Rattle.marching_cubes_tables.proofs.Tests.{both-left, both-right}
 use Rattle.walk.specs.Walk.{bit, signs}
 use Rattle.walk.proofs.SignByte.{byte, signs-byte}
 use Rattle.lent_mesh.specs.Grid.{insideOf}
 use Rattle.sign_words.specs.declared.Quad.{Quad}
-use Rattle.sign_words.specs.Words.{wordOf, insideRow}
-use Rattle.sign_words.specs.Cells.{longWord, QuadOf, cellsIn, mixed, activeWord}
-use Rattle.sign_words.proofs.Words.{wordOf-bit, wordOf-of-bits}
+use Rattle.sign_words.specs.Cells.{RowSigns, QuadOf, cellsIn, mixed, activeWord}
+use Rattle.sign_words.proofs.Words.{wordOf-of-bits}
 use Rattle.sign_words.proofs.OneBit.{and-bit, or-bit, xor-bit, shift-bit}
 
 -- ---- a test over so many Bools, computed, and what it says of each list of them
@@ -153,16 +151,12 @@ caseNumber-byte a b c d i a0 b0 c0 d0 a1 b1 c1 d1 ea eb ec ed fa fb fc fd =
 -- ---- at a cell of the grid
 
 module _ (n : ℕ) (samples : List Float) (k i : ℕ) (cell : i < cellsIn n k) where
-  bit-here : (word y z : ℕ) → word ≡ longWord n samples y z k → bitAt word i ≡ bit (insideOf n samples (32 * k + i) y z)
-  bit-here word y z e =
-      ap (λ (w : ℕ). bitAt w i) e ∙ wordOf-bit (λ j. insideRow n samples y z (32 * k + j)) 64 i (omega arith)
-      ∙ ap (λ (b : Bool). bit (b && insideOf n samples (32 * k + i) y z)) (lt-ltb (32 * k + i) n (omega arith))
+  bit-here : (word y z : ℕ) → RowSigns n samples y z k word → bitAt word i ≡ bit (insideOf n samples (32 * k + i) y z)
+  bit-here word y z e = e i (omega arith) (omega arith)
 
-  bit-right : (word y z : ℕ) → word ≡ longWord n samples y z k → bitAt word (i + 1) ≡ bit (insideOf n samples (32 * k + i + 1) y z)
+  bit-right : (word y z : ℕ) → RowSigns n samples y z k word → bitAt word (i + 1) ≡ bit (insideOf n samples (32 * k + i + 1) y z)
   bit-right word y z e =
-      ap (λ (w : ℕ). bitAt w (i + 1)) e ∙ wordOf-bit (λ j. insideRow n samples y z (32 * k + j)) 64 (i + 1) (omega arith)
-      ∙ ap (λ (b : Bool). bit (b && insideOf n samples (32 * k + (i + 1)) y z)) (lt-ltb (32 * k + (i + 1)) n (omega arith))
-      ∙ ap (λ (x : ℕ). bit (insideOf n samples x y z)) (sym (add-assoc (32 * k) i 1))
+      e (i + 1) (omega arith) (omega arith) ∙ ap (λ (x : ℕ). bit (insideOf n samples x y z)) (sym (add-assoc (32 * k) i 1))
 
   module _ (y z : ℕ) (q : Quad) (known : QuadOf n samples y z k q) where
     mixedWord-bit : bitAt (mixedWord (q .a) (q .b) (q .c) (q .d)) i ≡ bit (mixed (insideOf n samples) (32 * k + i) y z)

@@ -15,7 +15,7 @@ use mir.Val.{boolByte}
 use borrow.Author.Tests.{lt-ltb, le-ltb}
 use Rattle.marching_cubes_impl.specs.Sample.{inside}
 use Rattle.lent_mesh.proofs.Places.{in-row-lt}
-use Rattle.sign_words.specs.Words.{wordOf, signWord, wordFrom, insideRow, LayerWords, RowFilled}
+use Rattle.sign_words.specs.Words.{wordOf, signWord, wordFrom, insideRow, LayerWords, WordsFilled, RowFilled}
 use Rattle.sign_words.proofs.Words.{wordOf-turn, wordOf-same, wordOf-top}
 
 -- ---- a turn of the two loops
@@ -56,30 +56,34 @@ module _ (samples : List Float) (start n k : ℕ) where
 -- ---- the four words of a row, and the rows of a layer
 
 module _ (n : ℕ) (samples : List Float) (z : ℕ) where
-  -- the first words of row y are there, and what stands before the row is as it was
-  pub record RowBegun (y k : ℕ) (before after : List ℕ) : Type 0 where
-    pub long : length after ≡ 512
-    pub words : (j : ℕ) → j < k → getD after (4 * y + j) 0 ≡ wordOf (λ i. insideRow n samples y z (32 * j + i)) 32
-    pub kept : (i : ℕ) → i < 4 * y → getD after i 0 ≡ getD before i 0
+  pub row-none : (y from : ℕ) (before : List ℕ) → WordsFilled n samples y z from from before before
+  row-none y from before = record { words = λ j h l. absurd (omega arith); kept = λ i l. refl }
 
-  pub row-none : (y : ℕ) (before : List ℕ) → length before ≡ 512 → RowBegun y 0 before before
-  row-none y before h = record { long = h; words = λ j l. absurd (omega arith); kept = λ i l. refl }
-
-  pub row-suc : (y k word : ℕ) (before after : List ℕ) → y < 128 → k < 4 → RowBegun y k before after
-      → word ≡ wordOf (λ i. insideRow n samples y z (32 * k + i)) 32 → RowBegun y (k + 1) before (set after (4 * y + k) word)
-  row-suc y k word before after hy hk begun e =
-      let long = begun .long in
+  pub row-suc : (y from k word : ℕ) (before after : List ℕ) → y < 128 → from ≤ k → k < 4 → length after ≡ 513 → WordsFilled n samples y z from k before after
+      → word ≡ wordOf (λ i. insideRow n samples y z (32 * k + i)) 32 → WordsFilled n samples y z from (k + 1) before (set after (4 * y + k) word)
+  row-suc y from k word before after hy hf hk long begun e =
       record {
-        long = length-set after (4 * y + k) word ∙ long;
-        words = λ j l.
+        words = λ j h l.
             elim (decLt j k) [
-              | yes m ↦ getD-set-other after (4 * y + k) (4 * y + j) word 0 (λ q. omega (arith, q)) ∙ begun .words j m
+              | yes m ↦ getD-set-other after (4 * y + k) (4 * y + j) word 0 (λ q. omega (arith, q)) ∙ begun .words j h m
               | no m ↦
                   let q : j ≡ k = omega arith in
                   rw q (getD-set-same after (4 * y + k) word 0 (omega arith) ∙ e)
             ];
         kept = λ i l. getD-set-other after (4 * y + k) i word 0 (λ q. omega (arith, q)) ∙ begun .kept i l;
       }
+
+  -- the whole words, then the others
+  pub row-filled : (y whole : ℕ) (before between after : List ℕ) → WordsFilled n samples y z 0 whole before between → WordsFilled n samples y z whole 4 between after
+      → RowFilled n samples y z before after
+  row-filled y whole before between after first second = (
+    λ k h.
+        elim (decLt k whole) [
+          | yes l ↦ second .kept (4 * y + k) (omega arith) ∙ first .words k (omega arith) l
+          | no l ↦ second .words k (omega arith) h
+        ],
+    λ i l. second .kept i (omega arith) ∙ first .kept i (omega arith),
+  )
 
   -- rows below y are filled
   abbrev pub RowsFilled : ℕ → List ℕ → Type 0

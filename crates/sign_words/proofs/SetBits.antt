@@ -1,12 +1,11 @@
--- A loop over the set bits of a word, lowest first, does what the loop over all its cells does, where a cell whose bit is 0 is idle. For any state and
--- any step; a caller keeps `m ≡ mask / 2 ^ i` and `state ≡ times i step start` for i up to the number of cells.
+-- What a loop over the set bits of a word rests on: the lowest set bit, and cells passed over, whose bit is 0 and whose step is idle. For any state and
+-- any step. LowestBits has the loop itself.
 use mathlib.Core.Path.{_≡_, refl, sym, _∙_, ap}
 use Prim.Native.Nat.{ℕ, zero, suc, _+_, _*_, _-_, _/_, _%_, _^_, _≤_, _<_, min}
-use native.Mathlib.Nat.{pow-suc, div-one, zero-div, not-suc-le-zero, le-of-suc-le-suc, add-zero, add-suc, lt-of-lt-of-le, lt-of-le-of-lt, le-trans, le-of-eq}
-use native.Mathlib.Numerals.{add-one, one-add}
+use native.Mathlib.Nat.{pow-suc, div-one, zero-div, not-suc-le-zero, le-of-suc-le-suc, add-zero, add-suc}
+use native.Mathlib.Numerals.{one-add}
 use native.Mathlib.Omega.{arith}
-use native.Mathlib.Decide.{decLt}
-use lib.Pow.{shr-le, shr-lt, shr-shr, pow-mono}
+use lib.Pow.{shr-shr}
 use lib.Count.{trailingZeros, under}
 use Rattle.marching_cubes_tables.specs.Rule.{bitAt}
 use Rattle.walk.specs.Walk.{times}
@@ -20,7 +19,7 @@ below-under zero n (suc j) t e rest h =
 below-under (suc d) n j t e rest h = absurd (not-suc-le-zero h)
 
 -- the bits below it are 0
-trailing-below : (k n j : ℕ) → j < trailingZeros k n → bitAt n j ≡ 0
+pub trailing-below : (k n j : ℕ) → j < trailingZeros k n → bitAt n j ≡ 0
 unfolding trailingZeros
 trailing-below zero n j h = absurd (not-suc-le-zero h)
 trailing-below (suc k) n j h = below-under (n % 2) n j (trailingZeros k (n / 2)) refl (trailing-below k (n / 2)) h
@@ -33,38 +32,10 @@ top-under zero n k t e p l rest =
 top-under (suc d) n k t e p l rest = (omega arith, omega arith)
 
 -- it stands inside a number that is not 0
-trailing-top : (k n : ℕ) → 0 < n → n < 2 ^ k → (trailingZeros k n < k) × (2 ^ trailingZeros k n ≤ n)
+pub trailing-top : (k n : ℕ) → 0 < n → n < 2 ^ k → (trailingZeros k n < k) × (2 ^ trailingZeros k n ≤ n)
 unfolding trailingZeros
 trailing-top zero n p l = absurd (omega arith)
 trailing-top (suc k) n p l = top-under (n % 2) n k (trailingZeros k (n / 2)) refl p l (trailing-top k (n / 2))
-
--- ---- what is left of the word
-
-module _ (mask count i m : ℕ) (left : m ≡ mask / 2 ^ i) where
-  -- what is found is a cell of the word
-  pub found-lt : count ≤ 32 → mask < 2 ^ count → 0 < m → (trailingZeros 32 m < 32) × (i + trailingZeros 32 m < count)
-  found-lt h l p =
-      let s : m < 2 ^ 32 = lt-of-le-of-lt (le-trans (le-of-eq left) (shr-le mask i)) (lt-of-lt-of-le l (pow-mono h)) in
-      let t = trailing-top 32 m p s in
-      (t .0, within (trailingZeros 32 m) l (t .1))
-    where
-      within : (t : ℕ) → mask < 2 ^ count → 2 ^ t ≤ m → i + t < count
-      within t l h =
-          elim (decLt (i + t) count) [
-            | yes p ↦ p
-            | no p ↦
-                let q : count ≤ t + i = omega arith in
-                let z : mask / 2 ^ i < 2 ^ t = shr-lt t i (lt-of-lt-of-le l (pow-mono q)) in
-                absurd (omega (arith, left))
-          ]
-
-  -- the found bit and those below it are gone
-  pub left-next : (t : ℕ) → m / 2 ^ t / 2 ^ 1 ≡ mask / 2 ^ (i + t + 1)
-  left-next t = ap (λ (y : ℕ). y / 2 ^ t / 2 ^ 1) left ∙ ap (λ (y : ℕ). y / 2 ^ 1) (shr-shr mask i t) ∙ shr-shr mask (i + t) 1
-
--- the loop ends
-pub left-less : (t m : ℕ) → 0 < m → m / 2 ^ t / 2 ^ 1 < m
-left-less t m p = omega (arith, shr-le m t)
 
 -- ---- the loop
 
@@ -78,21 +49,6 @@ module _ {S : Type 0} (step : ℕ → S → S) (start : S) (mask count : ℕ)
       ap (λ (k : ℕ). times k step start) (add-suc i t)
       ∙ idle (i + t) (omega arith) (q t (omega arith))
       ∙ skip i t (omega arith) (λ j l. q j (omega arith))
-
-  -- up to the next set bit of what is left nothing is done
-  pub to-next : (i m width : ℕ) → m ≡ mask / 2 ^ i → i + trailingZeros width m ≤ count
-      → times (i + trailingZeros width m) step start ≡ times i step start
-  to-next i m width e h =
-      skip i (trailingZeros width m) h
-      (λ j l. ap (λ (y : ℕ). y % 2) (sym (shr-shr mask i j) ∙ ap (λ (y : ℕ). y / 2 ^ j) (sym e)) ∙ trailing-below width m j l)
-
-  -- a turn: the cell that was found
-  pub times-next : (i m width : ℕ) (state : S) → m ≡ mask / 2 ^ i → i + trailingZeros width m < count → state ≡ times i step start
-      → step (i + trailingZeros width m) state ≡ times (i + trailingZeros width m + 1) step start
-  unfolding times
-  times-next i m width state e h q =
-      ap (step (i + trailingZeros width m)) (q ∙ sym (to-next i m width e (omega arith)))
-      ∙ ap (λ (k : ℕ). times k step start) (sym (add-one (i + trailingZeros width m)))
 
   -- nothing is left
   pub to-end : (i : ℕ) → i ≤ count → mask / 2 ^ i ≡ 0 → times i step start ≡ times count step start

@@ -1,16 +1,13 @@
 -- Loops whose turns are steps of a walk: so many are done, the indices have grown by at most so many, and no more vertices are counted than indices.
 -- For any state that counts both; the walk over lent memory and the count alone cite these.
 use mathlib.Core.Path.{_≡_, refl, sym, ap, _∙_}
-use Prim.Native.Nat.{ℕ, zero, suc, _+_, _-_, _*_, _/_, _%_, _^_, _≤_, _<_, min}
-use native.Mathlib.Nat.{div-one}
+use Prim.Native.Nat.{ℕ, zero, suc, _+_, _-_, _*_, _≤_, _<_, min}
 use native.Mathlib.Numerals.{add-one}
 use native.Mathlib.Omega.{arith}
-use lib.Count.{trailingZeros}
-use Rattle.marching_cubes_tables.specs.Rule.{bitAt}
 use Rattle.walk.specs.Walk.{times}
 use Rattle.walk_models.specs.Owned.{Count}
 use Rattle.sign_words.specs.Cells.{cellsIn}
-use Rattle.sign_words.proofs.SetBits.{found-lt, left-next, times-next, to-end, times-word}
+use Rattle.sign_words.proofs.SetBits.{times-word}
 
 pub record Reached {S : Type 0} (count : S → Count) (step : ℕ → S → S) (start here : S) (turns growth : ℕ) : Type 0 where
   pub state : here ≡ times turns step start
@@ -72,40 +69,3 @@ unfolding times
 times-idle step start zero idle = refl
 times-idle step start (suc k) idle =
     sym (idle k (omega arith)) ∙ ap (step k) (times-idle step start k (λ i h. idle i (omega arith)))
-
--- ---- a word, bit after bit: the cells before cell i are done
-
-pub record AtBit {S : Type 0} (count : S → Count) (step : ℕ → S → S) (cells : ℕ) (start here : S) (mask rest i : ℕ) : Type 0 where
-  pub left : rest ≡ mask / 2 ^ i
-  pub within : i ≤ cells
-  pub state : here ≡ times i step start
-  pub grown : count here .written ≤ count start .written + 15 * i
-  pub ordered : count here .made ≤ count here .written
-
-module _ {S : Type 0} (count : S → Count) (step : ℕ → S → S) (cells : ℕ) (start : S) (mask : ℕ) where
-  pub at-first : count start .made ≤ count start .written → AtBit count step cells start start mask mask 0
-  unfolding times
-  at-first h = record { left = sym (div-one mask); within = omega arith; state = refl; grown = omega arith; ordered = h }
-
-  module _ (here : S) (rest i : ℕ) (at : AtBit count step cells start here mask rest i) where
-    -- the next set bit is a cell of the word
-    pub found-cell : cells ≤ 32 → mask < 2 ^ cells → 0 < rest → (trailingZeros 32 rest < 32) × (i + trailingZeros 32 rest < cells)
-    found-cell few small p = found-lt mask cells i rest (at .left) few small p
-
-    module _ (idle : (j : ℕ) → j < cells → bitAt mask j ≡ 0 → step j (times j step start) ≡ times j step start) where
-      pub at-next : (next : S) → i + trailingZeros 32 rest < cells → next ≡ step (i + trailingZeros 32 rest) here
-          → count next .written ≤ count here .written + 15 → count next .made ≤ count next .written
-          → AtBit count step cells start next mask (rest / 2 ^ trailingZeros 32 rest / 2 ^ 1) (i + trailingZeros 32 rest + 1)
-      at-next next f e g o =
-          let t = trailingZeros 32 rest in
-          let grown = at .grown in
-          record {
-            left = left-next mask cells i rest (at .left) t;
-            within = omega arith;
-            state = e ∙ times-next step start mask cells idle i rest 32 here (at .left) f (at .state);
-            grown = omega arith;
-            ordered = o;
-          }
-
-      pub at-last : rest ≡ 0 → here ≡ times cells step start
-      at-last e = at .state ∙ to-end step start mask cells idle i (at .within) (sym (at .left) ∙ e)

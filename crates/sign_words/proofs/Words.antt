@@ -3,10 +3,10 @@ use mathlib.Core.Path.{_≡_, refl, sym, _∙_, ap, ap₂, subst}
 use mathlib.Core.Bool.{Bool, true, false}
 use mathlib.Core.Logic.{⊎-elim}
 use Prim.Native.Nat.{ℕ, zero, suc, _+_, _*_, _-_, _/_, _%_, _^_, _≤_, _<_}
-use native.Mathlib.Nat.{pow-suc, add-comm, add-mul, mul-assoc, mul-comm, mod-eq-of-lt, mod-lt, not-suc-le-zero, le-of-suc-le-suc, eq-or-lt-of-le, add-zero, add-suc}
+use native.Mathlib.Nat.{pow-suc, add-comm, mod-eq-of-lt, mod-lt, not-suc-le-zero, le-of-suc-le-suc, eq-or-lt-of-le, add-zero, add-suc}
 use native.Mathlib.Numerals.{add-one, one-add}
 use native.Mathlib.Omega.{arith}
-use lib.Pow.{pow-add, pow-pos, shl-exact, field, mod-mod-pow, mod-pow-add, high, low}
+use lib.Pow.{pow-pos, shl-exact, field, mod-mod-pow, mod-pow-add, high, low}
 use lib.Bits.{bitOr, or-shifted-r}
 use mir.Val.{boolByte}
 use Rattle.marching_cubes_tables.specs.Rule.{bitAt}
@@ -59,24 +59,6 @@ wordOf-top f k (suc j) h =
     let none : f (k + j) ≡ false = h (k + j) (omega arith) (omega arith) in
     let rest : wordOf f (k + j) ≡ wordOf f k = wordOf-top f k j (λ i a b. h i a (omega arith)) in
     ap (wordOf f) (add-suc k j) ∙ ap (λ (b : Bool). wordOf f (k + j) + bit b * 2 ^ (k + j)) none ∙ omega arith
-
--- two words, one above the other
-pub wordOf-join : (f : ℕ → Bool) (i j : ℕ) → wordOf f (i + j) ≡ wordOf (λ t. f (i + t)) j * 2 ^ i + wordOf f i
-unfolding wordOf
-wordOf-join f i zero = ap (wordOf f) (add-zero i) ∙ nothing (2 ^ i) (wordOf f i)
-  where
-    nothing : (p w : ℕ) → w ≡ 0 * p + w
-    nothing p w = omega arith
-wordOf-join f i (suc j) =
-    ap (wordOf f) (add-suc i j)
-    ∙ ap₂ (λ (x y : ℕ). x + bit (f (i + j)) * y) (wordOf-join f i j) (pow-add 2 i j)
-    ∙ above (wordOf (λ t. f (i + t)) j) (2 ^ i) (wordOf f i) (bit (f (i + j))) (2 ^ j)
-  where
-    above : (h p w b r : ℕ) → h * p + w + b * (p * r) ≡ (h + b * r) * p + w
-    above h p w b r =
-        let e : (h + b * r) * p ≡ h * p + b * r * p = add-mul h (b * r) p in
-        let g : b * r * p ≡ b * (p * r) = mul-assoc b r p ∙ ap (λ (x : ℕ). b * x) (mul-comm r p) in
-        omega arith
 
 -- ---- one bit
 

@@ -5,26 +5,27 @@ use mathlib.Core.List.{List, []}
 use Prim.Native.Nat.{ℕ, _+_, _-_, _*_, _≤_, _<_, min}
 use lib.Dec.{eqb}
 use lib.Ieee.{Float}
-use Rattle.walk.specs.Walk.{Inside, signs, cellEdges}
+use Rattle.marching_cubes_tables.specs.Rule.{bitAt}
+use Rattle.walk.specs.Walk.{Inside, bit, signs, cellEdges}
 use Rattle.lent_mesh.specs.Grid.{insideOf}
 use Rattle.sign_words.specs.declared.Quad.{Quad}
-use Rattle.sign_words.specs.Words.{wordOf, insideRow, LayerWords}
+use Rattle.sign_words.specs.Words.{wordOf, LayerWords}
 
 -- ---- the four words
 
--- the signs of a row from sample 32 * k on, in 64 bits: each of 32 cells sees its right neighbour
-abbrev pub longWord : ℕ → List Float → ℕ → ℕ → ℕ → ℕ
-longWord n samples y z k = wordOf (λ i. insideRow n samples y z (32 * k + i)) 64
+-- bit i of the word is the sign of sample 32 * k + i of the row, up to the right neighbour of the last of 32 cells
+abbrev pub RowSigns : ℕ → List Float → ℕ → ℕ → ℕ → ℕ → Type 0
+RowSigns n samples y z k word = (i : ℕ) → i ≤ 32 → 32 * k + i < n → bitAt word i ≡ bit (insideOf n samples (32 * k + i) y z)
 
 abbrev pub LongWordFrom : List ℕ → ℕ → ℕ → ℕ → Type 0
-LongWordFrom words y k r = (n : ℕ) (samples : List Float) (z : ℕ) → LayerWords n samples z words → n ≤ 128 → y < n → r ≡ longWord n samples y z k
+LongWordFrom words y k r = (n : ℕ) (samples : List Float) (z : ℕ) → LayerWords n samples z words → n ≤ 128 → y < n → RowSigns n samples y z k r
 
 -- they are those of the rows that the cells lie between
 pub record QuadOf (n : ℕ) (samples : List Float) (y z k : ℕ) (q : Quad) : Type 0 where
-  pub low : q .a ≡ longWord n samples y z k
-  pub low-next : q .b ≡ longWord n samples (y + 1) z k
-  pub high : q .c ≡ longWord n samples y (z + 1) k
-  pub high-next : q .d ≡ longWord n samples (y + 1) (z + 1) k
+  pub low : RowSigns n samples y z k (q .a)
+  pub low-next : RowSigns n samples (y + 1) z k (q .b)
+  pub high : RowSigns n samples y (z + 1) k (q .c)
+  pub high-next : RowSigns n samples (y + 1) (z + 1) k (q .d)
 
 -- from the words of two layers
 abbrev pub QuadFrom : List ℕ → List ℕ → ℕ → ℕ → Quad → Type 0

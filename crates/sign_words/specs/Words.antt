@@ -3,7 +3,7 @@
 use mathlib.Core.Bool.{Bool, _&&_}
 use mathlib.Core.Path.{_≡_}
 use mathlib.Core.List.{List}
-use Prim.Native.Nat.{ℕ, zero, suc, _+_, _*_, _^_, _<_}
+use Prim.Native.Nat.{ℕ, zero, suc, _+_, _*_, _^_, _≤_, _<_}
 use lib.Dec.{ltb}
 use lib.ListN.{getD}
 use lib.Ieee.{Float, nan}
@@ -32,6 +32,15 @@ insideRow n samples y z x = ltb x n && insideOf n samples x y z
 abbrev pub LayerWords : ℕ → List Float → ℕ → List ℕ → Type 0
 LayerWords n samples z words =
     (y k : ℕ) → y < n → k < 4 → getD words (4 * y + k) 0 ≡ wordOf (λ i. insideRow n samples y z (32 * k + i)) 32
+
+-- row y has its words from one up to another, and what stands before them is as it was
+pub record WordsFilled (n : ℕ) (samples : List Float) (y z from to : ℕ) (before after : List ℕ) : Type 0 where
+  pub words : (k : ℕ) → from ≤ k → k < to → getD after (4 * y + k) 0 ≡ wordOf (λ i. insideRow n samples y z (32 * k + i)) 32
+  pub kept : (i : ℕ) → i < 4 * y + from → getD after i 0 ≡ getD before i 0
+
+-- of the row that starts at a place
+abbrev pub WordsFrom : ℕ → List Float → ℕ → ℕ → ℕ → ℕ → List ℕ → List ℕ → Type 0
+WordsFrom n samples start y from to before after = (z : ℕ) → start ≡ (z * n + y) * n → WordsFilled n samples y z from to before after
 
 -- row y has its words, and every other entry is as it was
 abbrev pub RowFilled : ℕ → List Float → ℕ → ℕ → List ℕ → List ℕ → Type 0

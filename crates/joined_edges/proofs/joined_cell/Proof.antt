@@ -69,9 +69,6 @@ make-all-requires c κs =
       ),
     )
 
-mul-name-all : tie.Need-mul-name-all
-mul-name-all c = let w = held (c .before .before .before .before .before .before .before .before) in search needs
-
 name-all-requires : tie.Need-name-all-requires
 name-all-requires c κs =
     let back = c .before .before .before .before .before in
@@ -126,7 +123,6 @@ joined-cell-spec =
     add-at
     mul-at-2
     make-all-requires
-    mul-name-all
     name-all-requires
     same-length
     same-length-2

@@ -1,7 +1,7 @@
--- `name_all`: what is left of the list, named from here, is the whole of it named from the start.
+-- `name_all`: what is left of the list, named from here, is the whole of it named from the start. A turn names three edges.
 use mathlib.Core.Path.{_≡_, refl, sym, _∙_}
 use mathlib.Core.List.{List}
-use Prim.Native.Nat.{ℕ, _+_, _%_, _≤_, _<_}
+use Prim.Native.Nat.{ℕ, _+_, _-_, _*_, _/_, _%_, _≤_, _<_}
 use native.Mathlib.Omega.{arith}
 use lib.ListN.{length, getD}
 use lib.Ieee.{Float}
@@ -10,50 +10,49 @@ use Rattle.walk.specs.Walk.{Visit}
 use Rattle.walk_models.specs.Owned.{nameEdge}
 use Rattle.packed_tables.specs.Unpacked.{unpacked, Edges}
 use Rattle.joined_edges.specs.OneCell.{SlotsFrom, each}
-use Rattle.joined_edges.proofs.PackedSteps.{first-edge, later-edges, each-none, hand, name-next}
+use Rattle.joined_edges.proofs.PackedSteps.{three-edges, each-none, hand, name-three}
 use Rattle.joined_edges.proofs.name_all.Statement.{statement}
 use Rattle.joined_edges.proofs.name_all.Tie as tie
 
 abbrev Inv-loop : tie.InvT-loop
-Inv-loop slots at list count work indices₀ made written₀ rest₀ left₀ indices written rest left =
-    (written + left ≡ written₀ + count) × (left ≤ 15) × Edges (unpacked left rest) × (length indices ≡ length indices₀)
+Inv-loop slots at list triangles work indices₀ made written₀ rest₀ left₀ indices written rest left =
+    (written + 3 * left ≡ written₀ + 3 * triangles) × (left ≤ 5) × Edges (unpacked (3 * left) rest) × (length indices ≡ length indices₀)
     × ((n x y z : ℕ) (store : Visit → ℕ → List Float → List Float) (b : List Float) → SlotsFrom at slots n x y z
-    → each (nameEdge store n z y x) (unpacked left rest) (hand work b indices made written)
-    ≡ each (nameEdge store n z y x) (unpacked count list) (hand work b indices₀ made written₀))
+    → each (nameEdge store n z y x) (unpacked (3 * left) rest) (hand work b indices made written)
+    ≡ each (nameEdge store n z y x) (unpacked (3 * triangles) list) (hand work b indices₀ made written₀))
 
 abbrev μ-loop : tie.MeasureT-loop
-μ-loop slots at list count work indices₀ made written₀ rest₀ left₀ indices written rest left = left
+μ-loop slots at list triangles work indices₀ made written₀ rest₀ left₀ indices written rest left = left
 
 loop-holds : tie.Need-loop-holds Inv-loop μ-loop
-loop-holds c = search needs
+loop-holds c =
+    let start = c .before .before in
+    let most = start .pre .0 .1 in
+    (refl, omega arith, start .pre .0 .0, refl, λ n x y z store b places. refl)
 
-mul-place : tie.Need-mul-place Inv-loop μ-loop
-mul-place c = search needs
+-- the edges of a turn
+edges : (c : tie.In-loop Inv-loop μ-loop)
+    → let rest = c .before .loop .rest in
+    (rest % 16 < 12) × (rest / 16 % 16 < 12) × (rest / 16 / 16 % 16 < 12) × Edges (unpacked (3 * (c .before .loop .left - 1)) (rest / 16 / 16 / 16))
+edges c = three-edges (c .before .loop .left) (c .before .loop .rest) (c .loop-test .taken) (c .before .loop .inv .2)
 
--- the edge of a turn
-edge-lt : (c : tie.In-loop Inv-loop μ-loop) → c .before .loop .rest % 16 < 12
-edge-lt c = first-edge (c .before .loop .left) (c .before .loop .rest) (c .loop-test .taken) (c .before .loop .inv .2)
-
--- and the place of its number
-place-lt : (c : tie.In-loop Inv-loop μ-loop)
+-- and the place of the number of one of them
+place-lt : (c : tie.In-loop Inv-loop μ-loop) (word : ℕ) → word % 16 < 12
     → (let start = c .before .before .before .before in
-    start .args .at + getD (start .args .slots .now) (c .before .loop .rest % 16) 0 < length (start .args .work .now))
-place-lt c = c .before .before .before .before .pre .1 .0 (c .before .loop .rest % 16) (edge-lt c)
+    start .args .at + getD (start .args .slots .now) (word % 16) 0 < length (start .args .work .now))
+place-lt c word h = c .before .before .before .before .pre .1 .0 (word % 16) h
 
-element-copy-out-place : tie.Need-element-copy-out-place Inv-loop μ-loop
-element-copy-out-place c = edge-lt c
+first-number-requires : tie.Need-first-number-requires Inv-loop μ-loop
+first-number-requires c κs = let h = edges c .0 in (h, place-lt c _ h)
 
-add-place : tie.Need-add-place Inv-loop μ-loop
-add-place c = let h = place-lt (c .before) in search needs
+first-number-requires-2 : tie.Need-first-number-requires-2 Inv-loop μ-loop
+first-number-requires-2 c κs = let turn = c .before in let h = edges turn .1 in (h, place-lt turn _ h)
 
-mul-put-index : tie.Need-mul-put-index Inv-loop μ-loop
-mul-put-index c = let h = place-lt (c .before .before) in search needs
+first-number-requires-3 : tie.Need-first-number-requires-3 Inv-loop μ-loop
+first-number-requires-3 c κs = let turn = c .before .before in let h = edges turn .2 in (h, place-lt turn _ h)
 
-shared-slice-read-put-index : tie.Need-shared-slice-read-put-index Inv-loop μ-loop
-shared-slice-read-put-index c = omega (arith, place-lt (c .before .before .before))
-
-put-index-requires : tie.Need-put-index-requires Inv-loop μ-loop
-put-index-requires c κs = search needs
+put-three-requires : tie.Need-put-three-requires Inv-loop μ-loop
+put-three-requires c κs = search needs
 
 add-written : tie.Need-add-written Inv-loop μ-loop
 add-written c = search needs
@@ -66,17 +65,19 @@ loop-less c = search needs
 
 loop-again : tie.Need-loop-again Inv-loop μ-loop
 loop-again c =
-    let turn = c .before .before .before .before .before .before in
+    let third = c .before .before .before .before in
+    let turn = third .before .before .before in
     let now = turn .before .loop in
     let args = turn .before .before .before .before .args in
-    let put = c .before .before .put-index .ensures in (
+    let put = c .before .before .put-three .ensures in (
       omega arith,
       omega arith,
-      later-edges (now .left) (now .rest) (turn .loop-test .taken) (now .inv .2),
+      edges turn .3,
       c .before .indices .given ∙ now .inv .3,
       λ n x y z store b places.
-          sym (name-next store n x y z (args .at) (args .slots .now) places (now .left) (now .rest) (turn .loop-test .taken) (now .inv .2)
-          (args .counts .made) (now .written) (args .work .now) (now .indices) b _ put)
+          sym (name-three store n x y z (args .at) (args .slots .now) places (now .left) (now .rest) (turn .loop-test .taken) (now .inv .2)
+          (args .counts .made) (now .written) (args .work .now) (now .indices) b _ _ _
+          (third .before .before .first-number .ensures) (third .before .first-number2 .ensures) (third .first-number3 .ensures) _ put)
           ∙ now .inv .4 n x y z store b places,
     )
 
@@ -86,7 +87,7 @@ same-length c = search needs
 returns : tie.Need-returns Inv-loop μ-loop
 returns c =
     let now = c .before .loop in (
-      λ n x y z store b places. sym (each-none (nameEdge store n z y x) (now .left) (now .rest) _ (omega arith)) ∙ now .inv .4 n x y z store b places,
+      λ n x y z store b places. sym (each-none (nameEdge store n z y x) (3 * now .left) (now .rest) _ (omega arith)) ∙ now .inv .4 n x y z store b places,
       (refl, omega arith),
     )
 
@@ -97,12 +98,10 @@ name-all-spec =
     Inv-loop
     μ-loop
     loop-holds
-    mul-place
-    element-copy-out-place
-    add-place
-    mul-put-index
-    shared-slice-read-put-index
-    put-index-requires
+    first-number-requires
+    first-number-requires-2
+    first-number-requires-3
+    put-three-requires
     add-written
     sub-left
     loop-less

@@ -1,7 +1,7 @@
--- `long_word`: two words of 32 bits, one above the other; above the last there is nothing.
+-- `long_word`: two words of 32 bits, one above the other.
 use native.Mathlib.Omega.{arith}
 use borrow.Author.Needs.{needs}
-use Rattle.sign_words.proofs.LongWords.{longWord-joined, longWord-last}
+use Rattle.sign_words.proofs.LongWords.{longWord-signs}
 use Rattle.sign_words.proofs.long_word.Statement.{statement}
 use Rattle.sign_words.proofs.long_word.Tie as tie
 
@@ -28,13 +28,8 @@ cast-result c = search needs
 
 returns : tie.Need-returns
 returns c =
-    let args = c .before .before .before .args in
-    longWord-joined (args .words .now) (args .y) (args .k) _ _ (c .before .before .word-at .ensures) (c .word-at2 .ensures) (omega arith)
-
-returns-2 : tie.Need-returns-2
-returns-2 c =
     let args = c .before .before .args in
-    longWord-last (args .words .now) (args .y) (args .k) _ (c .before .word-at .ensures) (omega arith)
+    longWord-signs (args .words .now) (args .y) (args .k) _ _ (omega arith) (omega arith) (omega arith) (c .before .word-at .ensures) (c .word-at2 .ensures)
 
 pub long-word-spec : {M : Type 1} → statement M
 long-word-spec =
@@ -47,5 +42,4 @@ long-word-spec =
     add-word-at
     word-at-requires-2
     cast-result
-    returns
-    returns-2)
+    returns)
