@@ -8,9 +8,9 @@ use native.Mathlib.Omega.{arith}
 use lib.ListN.{length, getD, take, drop, set, length-drop, length-map, List·getD-map}
 use lib.Seq.{paste-suc}
 use lib.Ieee.{Float, binary32, ofBits}
-use Rattle.sample_record.specs.Words.{wordAt, words}
+use Rattle.little_endian.specs.Words.{wordAt, words}
 use Rattle.sample_record.specs.Samples.{samplesOf}
-use Rattle.sample_record.proofs.Words.{words-length, words-from}
+use Rattle.little_endian.proofs.Words.{words-length, words-from}
 
 module _ (bytes : List ℕ) where
   pub samplesOf-length : length (samplesOf bytes) ≡ (length bytes - 20) / 4

@@ -6,7 +6,7 @@ use native.Mathlib.Nat.{add-assoc}
 use native.Mathlib.Omega.{arith}
 use lib.ListN.{length, getD, drop}
 use lib.Seq.{getD-drop}
-use Rattle.sample_record.specs.Words.{wordAt, words}
+use Rattle.little_endian.specs.Words.{wordAt, words}
 
 pub words-length : (bytes : List ℕ) → length (words bytes) ≡ length bytes / 4
 words-length bytes = let h = between bytes in omega arith

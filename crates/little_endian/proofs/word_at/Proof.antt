@@ -1,8 +1,8 @@
 -- `word_at`: the four bytes of the definition, as `word` joins them.
 use borrow.Author.Needs.{needs}
-use Rattle.sample_record.specs.Words.{wordAt}
-use Rattle.sample_record.proofs.word_at.Statement.{statement}
-use Rattle.sample_record.proofs.word_at.Tie as tie
+use Rattle.little_endian.specs.Words.{wordAt}
+use Rattle.little_endian.proofs.word_at.Statement.{statement}
+use Rattle.little_endian.proofs.word_at.Tie as tie
 
 shared-slice-read-word : tie.Need-shared-slice-read-word
 shared-slice-read-word c = search needs

@@ -1,10 +1,10 @@
--- `samples::float_of`: the test is the one of `nanBits-masked`, and 0.0 / 0.0 is the NaN.
+-- `float_of`: the test is the one of `nanBits-masked`, and 0.0 / 0.0 is the NaN.
 use mathlib.Core.Path.{sym, _∙_}
 use native.Mathlib.Omega.{arith}
 use borrow.Author.Needs.{needs}
-use Rattle.sample_record.proofs.NanBits.{ofBits-above, not-nanBits, nought-over-nought}
-use Rattle.sample_record.proofs.samples.float_of.Statement.{statement}
-use Rattle.sample_record.proofs.samples.float_of.Tie as tie
+use Rattle.little_endian.proofs.NanBits.{ofBits-above, not-nanBits, nought-over-nought}
+use Rattle.little_endian.proofs.float_of.Statement.{statement}
+use Rattle.little_endian.proofs.float_of.Tie as tie
 
 float-from-bits-result : tie.Need-float-from-bits-result
 float-from-bits-result c = not-nanBits (c .before .args .bits) (omega arith)

@@ -1,8 +1,8 @@
 -- `bits_of`: the test tells a NaN from every other float, and the pattern given for it is the model's.
 use borrow.Author.Needs.{needs}
-use Rattle.listing_text.proofs.NotANumber.{not-nan, nan-bits}
-use Rattle.listing_text.proofs.bits_of.Statement.{statement}
-use Rattle.listing_text.proofs.bits_of.Tie as tie
+use Rattle.little_endian.proofs.NotANumber.{not-nan, nan-bits}
+use Rattle.little_endian.proofs.bits_of.Statement.{statement}
+use Rattle.little_endian.proofs.bits_of.Tie as tie
 
 float-to-bits-result : tie.Need-float-to-bits-result
 float-to-bits-result c = not-nan _ (c .if1 .taken)

@@ -1,0 +1,110 @@
+-- Words and their bytes, one way and back: what is written is read again, and bytes in fours are the bytes of their words. The records cite these.
+use mathlib.Core.Path.{_≡_, refl, sym, ap, ap₂, _∙_}
+use mathlib.Core.List.{List, [], _∷_, _++_, append-assoc}
+use Prim.Native.Nat.{ℕ, zero, suc, _+_, _*_, _/_, _%_, _≤_, _<_}
+use native.Mathlib.Nat.{add-zero, add-suc, suc-add}
+use native.Mathlib.Numerals.{add-one, add-two, add-three}
+use native.Mathlib.Omega.{arith}
+use lib.ListN.{length, getD, set, length-append}
+use lib.Seq.{sets, lt-length-set}
+use Rattle.little_endian.specs.Words.{word, words, wordBytes, bytesOf}
+
+-- every number of a list is below a bound
+abbrev pub Below : ℕ → List ℕ → Type 0
+Below bound l = (i : ℕ) → i < length l → getD l i 0 < bound
+
+below-tail : (bound x : ℕ) (l : List ℕ) → Below bound (x ∷ l) → Below bound l
+below-tail bound x l h i within = h (suc i) (omega arith)
+
+pub bytesOf-length : (ws : List ℕ) → length (bytesOf ws) ≡ 4 * length ws
+unfolding wordBytes
+bytesOf-length [] = refl
+bytesOf-length (w ∷ ws) = let h = bytesOf-length ws in omega arith
+
+pub bytesOf-append : (xs ys : List ℕ) → bytesOf (xs ++ ys) ≡ bytesOf xs ++ bytesOf ys
+bytesOf-append [] ys = refl
+bytesOf-append (x ∷ xs) ys = ap (λ (l : List ℕ). wordBytes x ++ l) (bytesOf-append xs ys) ∙ sym (append-assoc (wordBytes x) (bytesOf xs) (bytesOf ys))
+
+-- ---- written, then read
+
+digits : (w : ℕ) → w < 4294967296 → word (w % 256) (w / 256 % 256) (w / 65536 % 256) (w / 16777216 % 256) ≡ w
+digits w h =
+    let second : w / 65536 ≡ w / 256 / 256 = omega arith in
+    let third : w / 16777216 ≡ w / 65536 / 256 = omega arith in
+    let top : w / 16777216 % 256 ≡ w / 16777216 = omega arith in
+    omega (arith, second, third, top)
+
+pub words-bytesOf : (ws : List ℕ) → Below 4294967296 ws → words (bytesOf ws) ≡ ws
+unfolding wordBytes
+words-bytesOf [] h = refl
+words-bytesOf (w ∷ ws) h = ap₂ (λ (a : ℕ) (l : List ℕ). a ∷ l) (digits w (h 0 (omega arith))) (words-bytesOf ws (below-tail 4294967296 w ws h))
+
+-- ---- read, then written
+
+module _ (a b c d : ℕ) (ha : a < 256) (hb : b < 256) (hc : c < 256) (hd : d < 256) where
+  pub word-lt : word a b c d < 4294967296
+  word-lt = omega arith
+
+  first : word a b c d % 256 ≡ a
+  first = omega arith
+
+  second : word a b c d / 256 % 256 ≡ b
+  second = omega arith
+
+  third : word a b c d / 65536 % 256 ≡ c
+  third = omega arith
+
+  fourth : word a b c d / 16777216 % 256 ≡ d
+  fourth = omega arith
+
+  wordBytes-word : wordBytes (word a b c d) ≡ a ∷ b ∷ c ∷ d ∷ []
+  unfolding wordBytes
+  wordBytes-word = rw (first, second, third, fourth)
+
+pub bytesOf-words : (bytes : List ℕ) → Below 256 bytes → length bytes ≡ 4 * (length bytes / 4) → bytesOf (words bytes) ≡ bytes
+bytesOf-words [] h fours = refl
+bytesOf-words (a ∷ []) h fours = absurd (omega arith)
+bytesOf-words (a ∷ b ∷ []) h fours = absurd (omega arith)
+bytesOf-words (a ∷ b ∷ c ∷ []) h fours = absurd (omega arith)
+bytesOf-words (a ∷ b ∷ c ∷ d ∷ rest) h fours =
+    ap₂ (λ (p q : List ℕ). p ++ q) (wordBytes-word a b c d (h 0 (omega arith)) (h 1 (omega arith)) (h 2 (omega arith)) (h 3 (omega arith)))
+    (bytesOf-words rest (λ i within. h (suc (suc (suc (suc i)))) (omega arith)) (omega arith))
+
+pub words-below : (bytes : List ℕ) → Below 256 bytes → Below 4294967296 (words bytes)
+words-below [] h i within = absurd (omega arith)
+words-below (a ∷ []) h i within = absurd (omega arith)
+words-below (a ∷ b ∷ []) h i within = absurd (omega arith)
+words-below (a ∷ b ∷ c ∷ []) h i within = absurd (omega arith)
+words-below (a ∷ b ∷ c ∷ d ∷ rest) h zero within = word-lt a b c d (h 0 (omega arith)) (h 1 (omega arith)) (h 2 (omega arith)) (h 3 (omega arith))
+words-below (a ∷ b ∷ c ∷ d ∷ rest) h (suc i) within = words-below rest (λ j w. h (suc (suc (suc (suc j)))) (omega arith)) i (omega arith)
+
+-- every byte of words is a byte
+pub bytesOf-below : (ws : List ℕ) → Below 256 (bytesOf ws)
+unfolding wordBytes
+bytesOf-below [] i within = absurd (omega arith)
+bytesOf-below (w ∷ ws) zero within = omega arith
+bytesOf-below (w ∷ ws) (suc zero) within = omega arith
+bytesOf-below (w ∷ ws) (suc (suc zero)) within = omega arith
+bytesOf-below (w ∷ ws) (suc (suc (suc zero))) within = omega arith
+bytesOf-below (w ∷ ws) (suc (suc (suc (suc i)))) within = bytesOf-below ws i (omega arith)
+
+-- ---- one piece after another
+
+pub sets-append : (l : List ℕ) (i : ℕ) (p q : List ℕ) → sets l i (p ++ q) ≡ sets (sets l i p) (i + length p) q
+sets-append l i [] q = ap (λ (k : ℕ). sets l k q) (sym (add-zero i))
+sets-append l i (a ∷ p) q =
+    sets-append (set l i a) (suc i) p q ∙ ap (λ (k : ℕ). sets (sets l i (a ∷ p)) k q) (suc-add i (length p) ∙ sym (add-suc i (length p)))
+
+-- four stores are the bytes of a word
+module _ (l : List ℕ) (at : ℕ) (a b c d : ℕ) where
+  pub put-four : set (set (set (set l at a) (at + 1) b) (at + 2) c) (at + 3) d ≡ sets l at (a ∷ b ∷ c ∷ d ∷ [])
+  put-four = rw (add-one at, add-two at, add-three at)
+
+  pub second-within : at + 4 ≤ length l → at + 1 < length (set l at a)
+  second-within h = lt-length-set l at a (omega arith)
+
+  pub third-within : at + 4 ≤ length l → at + 2 < length (set (set l at a) (at + 1) b)
+  third-within h = lt-length-set (set l at a) (at + 1) b (lt-length-set l at a (omega arith))
+
+  pub fourth-within : at + 4 ≤ length l → at + 3 < length (set (set (set l at a) (at + 1) b) (at + 2) c)
+  fourth-within h = lt-length-set (set (set l at a) (at + 1) b) (at + 2) c (lt-length-set (set l at a) (at + 1) b (lt-length-set l at a (omega arith)))

@@ -1,0 +1,5 @@
+pub mod LowestBad
+pub mod Checks
+pub mod Contents
+pub mod Passed
+pub mod Copies
