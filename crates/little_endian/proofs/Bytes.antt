@@ -5,9 +5,9 @@ use Prim.Native.Nat.{ℕ, zero, suc, _+_, _*_, _/_, _%_, _≤_, _<_}
 use native.Mathlib.Nat.{add-zero, add-suc, suc-add}
 use native.Mathlib.Numerals.{add-one, add-two, add-three}
 use native.Mathlib.Omega.{arith}
-use lib.ListN.{length, getD, set, length-append}
-use lib.Seq.{sets, lt-length-set}
-use Rattle.little_endian.specs.Words.{word, words, wordBytes, bytesOf}
+use lib.ListN.{length, getD, take, drop, set, length-take, length-drop}
+use lib.Seq.{sets, lt-length-set, getD-take, getD-drop}
+use Rattle.little_endian.specs.Words.{word, wordAt, words, wordBytes, bytesOf}
 
 -- every number of a list is below a bound
 abbrev pub Below : ℕ → List ℕ → Type 0
@@ -15,6 +15,28 @@ Below bound l = (i : ℕ) → i < length l → getD l i 0 < bound
 
 below-tail : (bound x : ℕ) (l : List ℕ) → Below bound (x ∷ l) → Below bound l
 below-tail bound x l h i within = h (suc i) (omega arith)
+
+pub below-cons : (bound x : ℕ) (l : List ℕ) → x < bound → Below bound l → Below bound (x ∷ l)
+below-cons bound x l h t zero within = h
+below-cons bound x l h t (suc i) within = t i (omega arith)
+
+pub below-append : (bound : ℕ) (xs ys : List ℕ) → Below bound xs → Below bound ys → Below bound (xs ++ ys)
+below-append bound [] ys h t = t
+below-append bound (x ∷ xs) ys h t = below-cons bound x (xs ++ ys) (h 0 (omega arith)) (below-append bound xs ys (below-tail bound x xs h) t)
+
+pub below-take : (bound n : ℕ) (l : List ℕ) → Below bound l → Below bound (take n l)
+below-take bound n l h i within =
+    let few = length-take n l in
+    rw (getD-take n l i 0 (omega arith)) (h i (omega arith))
+
+pub below-drop : (bound n : ℕ) (l : List ℕ) → Below bound l → Below bound (drop n l)
+below-drop bound n l h i within = let few = length-drop n l in rw (getD-drop n l i 0) (h (n + i) (omega arith))
+
+-- a read past the end gives 0
+pub below-read : (bound : ℕ) (l : List ℕ) → 0 < bound → Below bound l → (i : ℕ) → getD l i 0 < bound
+below-read bound [] some h i = some
+below-read bound (x ∷ l) some h zero = h 0 (omega arith)
+below-read bound (x ∷ l) some h (suc i) = below-read bound l some (below-tail bound x l h) i
 
 pub bytesOf-length : (ws : List ℕ) → length (bytesOf ws) ≡ 4 * length ws
 unfolding wordBytes
@@ -77,6 +99,13 @@ words-below (a ∷ b ∷ []) h i within = absurd (omega arith)
 words-below (a ∷ b ∷ c ∷ []) h i within = absurd (omega arith)
 words-below (a ∷ b ∷ c ∷ d ∷ rest) h zero within = word-lt a b c d (h 0 (omega arith)) (h 1 (omega arith)) (h 2 (omega arith)) (h 3 (omega arith))
 words-below (a ∷ b ∷ c ∷ d ∷ rest) h (suc i) within = words-below rest (λ j w. h (suc (suc (suc (suc j)))) (omega arith)) i (omega arith)
+
+pub wordAt-lt : (bytes : List ℕ) → Below 256 bytes → (place : ℕ) → wordAt bytes place < 4294967296
+unfolding wordAt
+wordAt-lt bytes h place =
+    let byte = below-read 256 bytes (omega arith) h in
+    word-lt (getD bytes place 0) (getD bytes (place + 1) 0) (getD bytes (place + 2) 0) (getD bytes (place + 3) 0)
+    (byte place) (byte (place + 1)) (byte (place + 2)) (byte (place + 3))
 
 -- every byte of words is a byte
 pub bytesOf-below : (ws : List ℕ) → Below 256 (bytesOf ws)

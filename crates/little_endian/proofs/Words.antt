@@ -22,7 +22,7 @@ wordAt-drop : (bytes : List ℕ) (start place : ℕ) → wordAt (drop start byte
 unfolding wordAt
 wordAt-drop bytes start place = simp (getD-drop, add-assoc)
 
-words-at : (bytes : List ℕ) (i : ℕ) → i < length (words bytes) → getD (words bytes) i 0 ≡ wordAt bytes (4 * i)
+pub words-at : (bytes : List ℕ) (i : ℕ) → i < length (words bytes) → getD (words bytes) i 0 ≡ wordAt bytes (4 * i)
 unfolding wordAt
 words-at [] i h = absurd (omega arith)
 words-at (a ∷ []) i h = absurd (omega arith)
@@ -36,3 +36,14 @@ words-at (a ∷ b ∷ c ∷ d ∷ rest) (suc i) h =
 -- the words after the first `start` bytes
 pub words-from : (bytes : List ℕ) (start i : ℕ) → i < length (words (drop start bytes)) → getD (words (drop start bytes)) i 0 ≡ wordAt bytes (start + 4 * i)
 words-from bytes start i h = words-at (drop start bytes) i h ∙ wordAt-drop bytes start (4 * i)
+
+four-suc : (k : ℕ) → 4 * suc k ≡ suc (suc (suc (suc (4 * k))))
+four-suc k = omega arith
+
+pub words-drop : (k : ℕ) (bytes : List ℕ) → words (drop (4 * k) bytes) ≡ drop k (words bytes)
+words-drop zero bytes = refl
+words-drop (suc k) [] = ap (λ (n : ℕ). words (drop n [])) (four-suc k)
+words-drop (suc k) (a ∷ []) = ap (λ (n : ℕ). words (drop n (a ∷ []))) (four-suc k)
+words-drop (suc k) (a ∷ b ∷ []) = ap (λ (n : ℕ). words (drop n (a ∷ b ∷ []))) (four-suc k)
+words-drop (suc k) (a ∷ b ∷ c ∷ []) = ap (λ (n : ℕ). words (drop n (a ∷ b ∷ c ∷ []))) (four-suc k)
+words-drop (suc k) (a ∷ b ∷ c ∷ d ∷ rest) = ap (λ (n : ℕ). words (drop n (a ∷ b ∷ c ∷ d ∷ rest))) (four-suc k) ∙ words-drop k rest

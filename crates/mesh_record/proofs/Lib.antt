@@ -3,3 +3,4 @@ pub mod Checks
 pub mod Contents
 pub mod Passed
 pub mod Copies
+mod Cases
