@@ -1,11 +1,11 @@
 -- Runs of words: how many there are, what each is, and what one turn of a copy does.
 use mathlib.Core.Path.{_≡_, refl, sym, ap, _∙_}
 use mathlib.Core.List.{List, [], _∷_, _++_, map, append-nil}
-use Prim.Native.Nat.{ℕ, zero, suc, _+_, _-_, _*_, _/_, _≤_, _<_, min}
+use Prim.Native.Nat.{ℕ, zero, suc, _+_, _-_, _*_, _≤_, _<_, min}
 use native.Mathlib.Nat.{zero-add}
 use native.Mathlib.Numerals.{add-one}
 use native.Mathlib.Omega.{arith}
-use lib.ListN.{length, getD, take, drop, set, length-take, length-drop, length-map}
+use lib.ListN.{length, getD, take, drop, set, length-take, length-drop}
 use lib.Seq.{sets, paste-suc, take-suc, take-length, getD-take}
 use Rattle.little_endian.specs.Words.{wordAt, words, wordsFrom, wordBytes, bytesOf, over}
 use Rattle.little_endian.proofs.Words.{words-length, words-from}

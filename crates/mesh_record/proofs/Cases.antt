@@ -5,7 +5,6 @@ use mathlib.Core.List.{List, [], _∷_, _++_, map}
 use Prim.Native.Nat.{ℕ}
 use lib.ListN.{take, set}
 use Rattle.little_endian.specs.Words.{wordAt, wordBytes, bytesOf}
-use Rattle.mesh_record.specs.declared.Refusal.{Refusal}
 use Rattle.mesh_record.specs.Mesh.{Mesh, recordBytes}
 use Rattle.mesh_record.specs.Refusals.{none, malformed, badSize, badNumbering, opening, lowestBad, contents}
 use Rattle.mesh_record.specs.Reading.{meshIn, fieldsIn, refusalIn}

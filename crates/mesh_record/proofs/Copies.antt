@@ -1,7 +1,6 @@
 -- What the reader leaves, by the room of the two buffers and by the refusal. `reader::copy_mesh` and `reader::read_mesh` cite these.
 use mathlib.Core.Path.{_≡_, sym, ap, ap₂, _∙_}
 use mathlib.Core.Logic.{_≢_}
-use mathlib.Core.Bool.{true, false}
 use mathlib.Core.List.{List, map}
 use Prim.Native.Nat.{ℕ, _+_, _*_, _≤_, _<_}
 use native.Mathlib.Omega.{arith}

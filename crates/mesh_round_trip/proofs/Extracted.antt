@@ -12,9 +12,7 @@ use lib.Seq.{take-append-seam, take-at}
 use lib.Ieee.{Float, nan, inf, fin, binary32, fits, toBits}
 use lib.Ieee.Fits.{add-fits}
 use borrow.Author.Tests.{ltb-false, le-ltb, eqb-true, not-false}
-use Rattle.little_endian.proofs.Turns.{getD-map-at}
 use Rattle.marching_cubes_impl.specs.declared.vertex.Vertex.{Vertex}
-use Rattle.marching_cubes_impl.specs.Sample.{good}
 use Rattle.marching_cubes_impl.specs.Vertex.{between}
 use Rattle.positions.specs.Position.{positionOf}
 use Rattle.positions.specs.Crossing.{finitePlus, GoodGrid}
@@ -25,7 +23,7 @@ use Rattle.walk.proofs.Counts.{noVisit}
 use Rattle.walk.proofs.Theorems.{index-threes, counts-bound, joined-indices, crate-indices}
 use Rattle.lent_mesh.specs.Grid.{insideOf, positionAt, floatsOf}
 use Rattle.lent_mesh.proofs.Floats.{floatsOf-length}
-use Rattle.sample_check.specs.Samples.{lowestBad, anyBad}
+use Rattle.sample_check.specs.Samples.{lowestBad}
 use Rattle.sample_check.proofs.Samples.{anyBad-lowestBad, anyBad-none-good}
 use Rattle.marching_cubes.specs.declared.Answer.{Answer}
 use Rattle.marching_cubes.specs.Outcome.{Outcome, Surface, surface, surfaceOf, workRoom, over, refused, meshed, filled, outcome}
@@ -34,7 +32,7 @@ use Rattle.marching_cubes.proofs.ByCause.{accepted, room-enough}
 use Rattle.marching_cubes.proofs.Demands.{demand-3}
 use Rattle.mesh_record.specs.Mesh.{Mesh, vertexCount, recordBytes, Good}
 use Rattle.mesh_record.specs.Refusals.{none}
-use Rattle.mesh_record.specs.Reading.{meshIn, refusalIn}
+use Rattle.mesh_record.specs.Reading.{meshIn}
 use Rattle.mesh_record.proofs.Passed.{neither-left, neither-right}
 use Rattle.mesh_write.specs.Writing.{meshOf, refusalOf}
 use Rattle.mesh_round_trip.proofs.FiniteBits.{number, Floats, bits-small, bits-finite}

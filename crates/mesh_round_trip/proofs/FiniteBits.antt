@@ -1,16 +1,15 @@
 -- The bits of floats, one way and back: bits that are finite by the record's test are those of a finite float, and no bit is lost. Whoever turns a
 -- mesh of bits into one of floats cites these.
 use mathlib.Core.Path.{_≡_, refl, sym, ap, ap₂, _∙_, subst}
-use mathlib.Core.Logic.{⊎-elim}
 use mathlib.Core.Bool.{Bool, true, false, cond, not}
 use mathlib.Core.List.{List, [], _∷_, map}
-use Prim.Native.Nat.{ℕ, zero, suc, _*_, _/_, _%_, _≤_, _<_}
+use Prim.Native.Nat.{ℕ, zero, suc, _/_, _%_, _≤_, _<_}
 use native.Mathlib.Omega.{arith}
-use lib.Dec.{T, ltb, leb, eqb}
+use lib.Dec.{T, leb, eqb}
 use lib.ListN.{length, getD, length-map}
 use lib.Ieee.{Float, nan, inf, fin, binary32, isNan, nanBits, fits, ofBits, ofFields, toBits}
 use lib.Ieee.Bits.{ofBits-toBits, toBits-lt, toBits-ofBits, nanBits-is, nanBits-above}
-use borrow.Author.Tests.{ltb-true, ltb-false, lt-ltb, le-ltb}
+use borrow.Author.Tests.{ltb-true, ltb-false, le-ltb}
 use Rattle.little_endian.proofs.Bytes.{Below}
 use Rattle.little_endian.proofs.Turns.{getD-map-at}
 use Rattle.mesh_record.specs.Mesh.{finite}

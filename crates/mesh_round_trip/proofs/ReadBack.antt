@@ -2,19 +2,19 @@
 -- same record. The safety file cites these.
 use mathlib.Core.Path.{_≡_, refl, sym, ap, ap₂, _∙_, subst}
 use mathlib.Core.Bool.{Bool, true, false, cond, _||_}
-use mathlib.Core.List.{List, _++_, map}
-use Prim.Native.Nat.{ℕ, _+_, _*_, _/_, _%_, _≤_, _<_}
+use mathlib.Core.List.{List, map}
+use Prim.Native.Nat.{ℕ, _+_, _*_, _/_, _≤_}
 use native.Mathlib.Omega.{arith}
-use lib.Dec.{T, ltb, eqb}
-use lib.ListN.{length, getD, take, drop, length-map}
+use lib.Dec.{ltb, eqb}
+use lib.ListN.{length, take, drop, length-map}
 use lib.Seq.{take-append-seam, take-at}
-use lib.Ieee.{Float, nan, binary32, fits, ofBits, toBits}
-use borrow.Author.Tests.{ltb-false, eqb-true, eqb-false, lt-ltb, le-ltb, eq-eqb}
+use lib.Ieee.{Float, binary32, ofBits, toBits}
+use borrow.Author.Tests.{ltb-false, eqb-true, eqb-false, le-ltb}
 use Rattle.little_endian.specs.Words.{over}
-use Rattle.little_endian.proofs.Bytes.{Below, bytesOf-below}
+use Rattle.little_endian.proofs.Bytes.{Below}
 use Rattle.mesh_record.specs.declared.Refusal.{Refusal}
-use Rattle.mesh_record.specs.Mesh.{Mesh, vertexCount, finite, below, header, recordBytes, Good}
-use Rattle.mesh_record.specs.Refusals.{none, opening, lowestBad, contents}
+use Rattle.mesh_record.specs.Mesh.{Mesh, vertexCount, recordBytes, Good}
+use Rattle.mesh_record.specs.Refusals.{none, opening, contents}
 use Rattle.mesh_record.specs.Reading.{Read, meshIn, refusalIn, refused, short, done, copied, reading}
 use Rattle.mesh_record.specs.Reading.{left as Reading·left}
 use Rattle.mesh_record.proofs.Checks.{opening-passed}
@@ -22,7 +22,7 @@ use Rattle.mesh_record.proofs.Passed.{part-passed, opening-known, contents-know
 use Rattle.mesh_record.proofs.Copies.{copied-done, reading-passed}
 use Rattle.mesh_round_trip.proofs.Records.{contents-none, record-holds, record-accepted, accepted-good, accepted-again}
 use Rattle.mesh_round_trip.proofs.FiniteBits.{Floats, floats-of-bits, bits-of-floats, bits-small}
-use Rattle.mesh_write.specs.Writing.{meshOf, Fits, fieldsOf, refusalOf, Written, left, answered, put, writing}
+use Rattle.mesh_write.specs.Writing.{meshOf, fieldsOf, refusalOf, Written, left, answered, put, writing}
 use Rattle.mesh_write.proofs.Fields.{fieldsOf-passed, fieldsOf-known}
 use Rattle.mesh_write.proofs.Meshes.{writing-passed}
 
@@ -198,5 +198,33 @@ module _ (bytes : List ℕ) (small : Below 256 bytes) (floats : List Float) (wor
       let same = accepted-again bytes small (is-read .accepted) in
       let enough : length (recordBytes held-mesh) ≤ length out = omega (arith, room, ap length same) in
       ap (λ (k : Mesh). writing 1 k out) read-again
-      ∙ sym (writing-passed 1 held-mesh out none (sym (good-unrefused held-mesh is-good)) refl)
+      ∙ sym (writing-passed 1 held-mesh out none (sym (good-unrefused held-mesh is-good)) (put held-mesh out) refl refl)
       ∙ (rw (le-ltb (length out) (length (recordBytes held-mesh)) enough) (ap (λ (l : List ℕ). left (answered 0 0 (length l)) (over l out)) same))
+
+-- ---- refused
+
+-- After any cause but 0 the reader has left both buffers as they were,
+pub read-unchanged : (bytes : List ℕ) (floats : List Float) (words : List ℕ) → (reading bytes floats words .answer .cause ≡ 0 → ⊥)
+    → (reading bytes floats words .coordinates ≡ floats) × (reading bytes floats words .indices ≡ words)
+unfolding reading copied
+read-unchanged bytes floats words = by (eqb (refusalIn bytes .cause) 0) (few bytes floats words)
+  where
+    by : (passed short-of-room : Bool)
+        → let r = cond passed (cond short-of-room (Reading·left (short (meshIn bytes)) floats words) (done-read bytes floats words)) (Reading·left (refused (refusalIn bytes)) floats words) in
+        (r .answer .cause ≡ 0 → ⊥) → (r .coordinates ≡ floats) × (r .indices ≡ words)
+    by true true h = (refl, refl)
+    by true false h = absurd (h refl)
+    by false b h = (refl, refl)
+
+-- and the writer the output.
+pub write-unchanged : (version : ℕ) (m : Mesh) (out : List ℕ) → (writing version m out .answer .cause ≡ 0 → ⊥) → writing version m out .out ≡ out
+unfolding writing put
+write-unchanged version m out = by (eqb (refusalOf version m .cause) 0) (ltb (length out) (length (recordBytes m)))
+  where
+    by : (passed short-of-room : Bool)
+        → let w = cond passed (cond short-of-room (left (answered 10 0 (length (recordBytes m))) out) (left (answered 0 0 (length (recordBytes m))) (over (recordBytes m) out)))
+        (left (answered (refusalOf version m .cause) (refusalOf version m .place) 0) out) in
+        (w .answer .cause ≡ 0 → ⊥) → w .out ≡ out
+    by true true h = refl
+    by true false h = absurd (h refl)
+    by false b h = refl

@@ -1,22 +1,19 @@
 -- The record of a good mesh and the reader's answer to it: reading what was written gives the mesh back, what is accepted and written again gives the
 -- same bytes, and the records of good meshes are exactly the bytes that are accepted. The safety file cites these.
 use mathlib.Core.Path.{_≡_, refl, sym, ap, ap₂, _∙_, subst}
-use mathlib.Core.Bool.{true, false}
 use mathlib.Core.List.{List, [], _∷_, _++_, append-assoc}
-use Prim.Native.Nat.{ℕ, zero, suc, _+_, _*_, _/_, _%_, _≤_, _<_}
-use native.Mathlib.Nat.{zero-add}
+use Prim.Native.Nat.{ℕ, _+_, _*_, _/_, _%_, _≤_, _<_}
 use native.Mathlib.Omega.{arith}
-use lib.Dec.{ltb}
-use lib.ListN.{length, getD, take, drop, length-append, length-take, length-drop, take-append-drop}
-use lib.Seq.{take-length, take-append-seam, take-all, drop-at, drop-drop, getD-take}
+use lib.ListN.{length, getD, take, drop, length-append, length-drop, take-append-drop}
+use lib.Seq.{take-length, take-append-seam, take-all, drop-at, drop-drop}
 use borrow.Author.Tests.{lt-ltb}
 use Rattle.little_endian.specs.Words.{wordAt, words, wordsFrom, bytesOf}
 use Rattle.little_endian.proofs.Words.{words-length, words-at, words-drop}
-use Rattle.little_endian.proofs.Bytes.{Below, below-cons, below-append, below-take, below-drop, bytesOf-length, bytesOf-append, bytesOf-below, words-bytesOf, bytesOf-words, words-below, wordAt-lt}
+use Rattle.little_endian.proofs.Bytes.{Below, below-cons, below-append, below-take, below-drop, bytesOf-length, words-bytesOf, bytesOf-words, words-below, wordAt-lt}
 use Rattle.mesh_record.specs.declared.Refusal.{Refusal}
 use Rattle.mesh_record.specs.Mesh.{Mesh, vertexCount, finite, below, header, recordBytes, Good}
-use Rattle.mesh_record.specs.Refusals.{none, lowestBad, opening, contents}
-use Rattle.mesh_record.specs.Reading.{meshIn, fieldsIn, refusalIn}
+use Rattle.mesh_record.specs.Refusals.{none, lowestBad, contents}
+use Rattle.mesh_record.specs.Reading.{meshIn, refusalIn}
 use Rattle.mesh_record.proofs.LowestBad.{all-lowestBad}
 use Rattle.mesh_record.proofs.Checks.{opening-passed, fieldsIn-passed}
 use Rattle.mesh_record.proofs.Contents.{contents-passed, coordinates-length, indices-length, meshIn-vertices}

@@ -1,7 +1,6 @@
 -- The refusal of a mesh from those of its parts, with the counts as the code has them. `contents_of`, `refusal_of` and `write_mesh` cite these.
-use mathlib.Core.Path.{_≡_, refl, sym, ap, _∙_}
+use mathlib.Core.Path.{_≡_, sym, ap, _∙_}
 use mathlib.Core.Logic.{_≢_}
-use mathlib.Core.Bool.{Bool, true, false}
 use mathlib.Core.List.{List, map}
 use Prim.Native.Nat.{ℕ, _+_, _*_, _/_, _≤_, _<_}
 use native.Mathlib.Omega.{arith}
@@ -14,7 +13,7 @@ use Rattle.mesh_record.specs.Refusals.{none, malformed, opening, lowestBad, con
 use Rattle.mesh_record.proofs.Contents.{contents-coordinate, contents-index, contents-passed}
 use Rattle.mesh_record.proofs.Passed.{part-passed}
 use Rattle.mesh_write.specs.declared.WriteAnswer.{WriteAnswer}
-use Rattle.mesh_write.specs.Writing.{meshOf, Fits, fieldsOf, refusalOf, left, answered, put, writing}
+use Rattle.mesh_write.specs.Writing.{meshOf, Fits, fieldsOf, refusalOf, Written, left, answered, put, writing}
 use Rattle.mesh_write.proofs.Fields.{fieldsOf-known}
 
 pub bits-length : (coordinates : List Float) → length (map (toBits binary32) coordinates) ≡ length coordinates
@@ -79,6 +78,6 @@ module _ (version : ℕ) (m : Mesh) (out : List ℕ) (r : Refusal) (is : r ≡ r
   unfolding writing
   writing-refused answer told h = rw (← is, ne-eqb (r .cause) 0 h, told)
 
-  pub writing-passed : r .cause ≡ 0 → put m out ≡ writing version m out
+  pub writing-passed : (w : Written) → w ≡ put m out → r .cause ≡ 0 → w ≡ writing version m out
   unfolding writing
-  writing-passed h = rw (← is, eq-eqb (r .cause) 0 h)
+  writing-passed w told h = rw (← is, eq-eqb (r .cause) 0 h) told

@@ -1,6 +1,5 @@
 -- A record put in three parts, one after another, is the record: its header, its vertices, its indices. `put_mesh` cites these.
-use mathlib.Core.Path.{_≡_, refl, sym, ap, ap₂, _∙_}
-use mathlib.Core.Bool.{true, false}
+use mathlib.Core.Path.{_≡_, sym, ap, ap₂, _∙_}
 use mathlib.Core.List.{List, [], _∷_, _++_, map}
 use Prim.Native.Nat.{ℕ, _+_, _*_, _/_, _≤_, _<_}
 use native.Mathlib.Nat.{zero-add}
@@ -11,7 +10,7 @@ use lib.Ieee.{Float, binary32, toBits}
 use borrow.Author.Tests.{lt-ltb, le-ltb}
 use Rattle.little_endian.specs.Words.{bytesOf, over}
 use Rattle.little_endian.proofs.Bytes.{bytesOf-length, bytesOf-append, sets-append}
-use Rattle.mesh_record.specs.Mesh.{Mesh, vertexCount, header, recordBytes}
+use Rattle.mesh_record.specs.Mesh.{Mesh, header, recordBytes}
 use Rattle.mesh_write.specs.declared.WriteAnswer.{WriteAnswer}
 use Rattle.mesh_write.specs.Writing.{meshOf, left, answered, put}
 use Rattle.mesh_write.proofs.Meshes.{bits-length}

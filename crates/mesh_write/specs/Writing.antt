@@ -9,7 +9,7 @@ use lib.ListN.{length}
 use lib.Ieee.{Float, binary32, toBits}
 use Rattle.little_endian.specs.Words.{over}
 use Rattle.mesh_record.specs.declared.Refusal.{Refusal}
-use Rattle.mesh_record.specs.Mesh.{Mesh, vertexCount, recordBytes}
+use Rattle.mesh_record.specs.Mesh.{Mesh, recordBytes}
 use Rattle.mesh_record.specs.Refusals.{malformed, none, orElse, inThrees, opening, contents}
 use Rattle.mesh_write.specs.declared.WriteAnswer.{WriteAnswer}
 

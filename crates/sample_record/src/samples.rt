@@ -1,6 +1,5 @@
 // The samples of a record, out of its bytes.
-use little_endian::float_of;
-use little_endian::word_at;
+use little_endian::runs::copy_floats;
 ghost use mathlib.Core.Path.{_≡_};
 ghost use Prim.Native.Nat.{min};
 ghost use lib.ListN.{length};
@@ -23,9 +22,8 @@ pub fn copy_samples(bytes: &[u8], buffer: &mut [f32])
     ensures { λ _. ⌜ now (buffer .exit) ≡ copied (now (bytes .entry)) (now (buffer .entry)) ⌝ }
 {
     let count = copied_count(bytes, buffer.len());
-    let mut i = 0;
-    while i < count {
-        buffer[i] = float_of(word_at(bytes, 20 + 4 * i));
-        i += 1;
+    if count == 0 {
+        return;
     }
+    copy_floats(bytes, 20, count, buffer);
 }

@@ -1,5 +1,4 @@
 -- `put_mesh`: the room is tried before anything is written; then the header, the vertices and the indices, one after another.
-use mathlib.Core.Path.{_≡_, _∙_}
 use native.Mathlib.Omega.{arith}
 use Rattle.mesh_write.proofs.Puts.{put-short, put-done}
 use borrow.Author.Needs.{needs}

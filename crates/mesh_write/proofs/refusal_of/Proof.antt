@@ -1,5 +1,5 @@
 -- `refusal_of`: the parts in the order of the definition; what the fields showed bounds the places of the contents.
-use mathlib.Core.Path.{_≡_, sym, ap, _∙_}
+use mathlib.Core.Path.{sym, ap, _∙_}
 use native.Mathlib.Omega.{arith}
 use lib.ListN.{length}
 use Rattle.mesh_record.specs.declared.Refusal.{Refusal}

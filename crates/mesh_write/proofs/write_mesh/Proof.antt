@@ -1,5 +1,4 @@
 -- `write_mesh`: a refusal leaves the output, and what passed has counts that fit their fields.
-use mathlib.Core.Path.{_∙_}
 use Rattle.mesh_write.specs.Writing.{meshOf}
 use Rattle.mesh_write.proofs.Meshes.{refusalOf-fits, writing-refused, writing-passed}
 use borrow.Author.Needs.{needs}
@@ -37,9 +36,8 @@ returns-2 c =
     let else = put .before .before in
     let call = else .before .before in
     let start = call .before .before .before .before in
-    put .put-mesh .ensures
-    ∙ writing-passed (start .args .version) (meshOf (start .args .size) (start .args .numbering) (start .args .coordinates .now) (start .args .indices .now))
-    (start .args .out .now) (call .refusal-of .result) (call .refusal-of .ensures) (else .if1 .left)
+    writing-passed (start .args .version) (meshOf (start .args .size) (start .args .numbering) (start .args .coordinates .now) (start .args .indices .now))
+    (start .args .out .now) (call .refusal-of .result) (call .refusal-of .ensures) _ (put .put-mesh .ensures) (else .if1 .left)
 
 pub write-mesh-spec : {M : Type 1} → statement M
 write-mesh-spec =

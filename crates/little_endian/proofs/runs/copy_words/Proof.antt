@@ -1,6 +1,6 @@
 -- `runs::copy_words`: after i turns the front of the buffer has the first i words, and the rest is as it was.
-use mathlib.Core.Path.{_≡_, refl, sym, ap, _∙_}
-use Prim.Native.Nat.{ℕ, _+_, _-_, _*_, _≤_, _<_}
+use mathlib.Core.Path.{_≡_, refl, sym, _∙_}
+use Prim.Native.Nat.{_-_, _≤_, _<_}
 use native.Mathlib.Omega.{arith}
 use lib.ListN.{length}
 use Rattle.little_endian.specs.Words.{wordsFrom}

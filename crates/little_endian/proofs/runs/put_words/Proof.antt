@@ -1,7 +1,6 @@
 -- `runs::put_words`: after i turns the bytes of the first i words are put.
-use mathlib.Core.Path.{_≡_, refl, sym, ap, _∙_}
-use Prim.Native.Nat.{ℕ, _+_, _-_, _*_, _≤_, _<_}
-use native.Mathlib.Omega.{arith}
+use mathlib.Core.Path.{_≡_, refl, _∙_}
+use Prim.Native.Nat.{_-_, _≤_}
 use lib.ListN.{length}
 use Rattle.little_endian.proofs.Turns.{putTo, putTo-end, put-next}
 use borrow.Author.Needs.{needs}

@@ -1,6 +1,4 @@
 -- `reader::copy_mesh`: both rooms are tried before anything is written; then one copy each.
-use mathlib.Core.Path.{_≡_, _∙_}
-use Prim.Native.Nat.{_+_, _*_}
 use native.Mathlib.Omega.{arith}
 use Rattle.mesh_record.proofs.Copies.{few-coordinates, few-indices, enough-room}
 use borrow.Author.Needs.{needs}

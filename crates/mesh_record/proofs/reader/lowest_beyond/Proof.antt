@@ -1,8 +1,8 @@
 -- `reader::lowest_beyond`: the indices before i are below the limit, so the answer is i more than that of the rest.
 use mathlib.Core.Path.{_≡_, sym, ap, _∙_}
-use Prim.Native.Nat.{ℕ, _+_, _-_, _*_, _≤_, _<_}
+use Prim.Native.Nat.{_+_, _-_, _≤_, _<_}
 use native.Mathlib.Omega.{arith}
-use lib.ListN.{length, drop}
+use lib.ListN.{length, getD, drop}
 use borrow.Author.Tests.{lt-ltb, le-ltb}
 use Rattle.little_endian.specs.Words.{wordsFrom}
 use Rattle.little_endian.proofs.Turns.{wordsFrom-length, wordsFrom-at}
@@ -31,19 +31,29 @@ add-word-at c = search needs
 word-at-requires : tie.Need-word-at-requires Inv-loop μ-loop
 word-at-requires c κs = search needs
 
-returns : tie.Need-returns Inv-loop μ-loop
-returns c =
-    let turn = c .before .before .before in
+-- the word that a turn reads is one of the run
+read : (c : tie.After-word-at Inv-loop μ-loop) →
+    let turn = c .before .before in
+    let start = turn .before .before in
+    let run = wordsFrom (start .args .bytes .now) (start .args .at) (start .args .count) in
+    (turn .loop .i < length run) × (getD run (turn .loop .i) 0 ≡ c .word-at .result)
+read c =
+    let turn = c .before .before in
     let start = turn .before .before in
     let bytes = start .args .bytes .now in
-    let at = start .args .at in
-    let count = start .args .count in
+    let here : turn .loop .i < start .args .count = search needs in (
+      omega (arith, here, wordsFrom-length bytes (start .args .at) (start .args .count) (start .pre)),
+      wordsFrom-at bytes (start .args .at) (start .args .count) (start .pre) (turn .loop .i) here ∙ sym (c .word-at .ensures),
+    )
+
+returns : tie.Need-returns Inv-loop μ-loop
+returns c =
+    let word = c .before in
+    let turn = word .before .before in
+    let start = turn .before .before in
     let limit = start .args .limit in
-    let i = turn .loop .i in
-    let here : i < count = search needs in
-    let within : i < length (wordsFrom bytes at count) = omega (arith, here, wordsFrom-length bytes at count (start .pre)) in
-    let word = wordsFrom-at bytes at count (start .pre) i here ∙ sym (c .before .word-at .ensures) in
-    sym (lowestBad-bad (below limit) (wordsFrom bytes at count) i within (ap (below limit) word ∙ le-ltb (c .before .word-at .result) limit (c .if1 .taken))) ∙ turn .loop .inv .1
+    let run = wordsFrom (start .args .bytes .now) (start .args .at) (start .args .count) in
+    sym (lowestBad-bad (below limit) run (turn .loop .i) (read word .0) (ap (below limit) (read word .1) ∙ le-ltb (word .word-at .result) limit (c .if1 .taken))) ∙ turn .loop .inv .1
 
 add-i : tie.Need-add-i Inv-loop μ-loop
 add-i c = search needs
@@ -53,17 +63,13 @@ loop-less c = search needs
 
 loop-again : tie.Need-loop-again Inv-loop μ-loop
 loop-again c =
-    let turn = c .before .before .before in
+    let word = c .before in
+    let turn = word .before .before in
     let start = turn .before .before in
-    let bytes = start .args .bytes .now in
-    let at = start .args .at in
-    let count = start .args .count in
     let limit = start .args .limit in
-    let i = turn .loop .i in
-    let here : i < count = search needs in
-    let within : i < length (wordsFrom bytes at count) = omega (arith, here, wordsFrom-length bytes at count (start .pre)) in
-    let word = wordsFrom-at bytes at count (start .pre) i here ∙ sym (c .before .word-at .ensures) in
-    (search needs, sym (lowestBad-good (below limit) (wordsFrom bytes at count) i within (ap (below limit) word ∙ lt-ltb (c .before .word-at .result) limit (omega arith))) ∙ turn .loop .inv .1)
+    let run = wordsFrom (start .args .bytes .now) (start .args .at) (start .args .count) in
+    let passes = lt-ltb (word .word-at .result) limit (omega arith) in
+    (search needs, sym (lowestBad-good (below limit) run (turn .loop .i) (read word .0) (ap (below limit) (read word .1) ∙ passes)) ∙ turn .loop .inv .1)
 
 returns-2 : tie.Need-returns-2 Inv-loop μ-loop
 returns-2 c =

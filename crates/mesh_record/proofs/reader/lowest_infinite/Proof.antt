@@ -1,8 +1,8 @@
 -- `reader::lowest_infinite`: the coordinates before i are finite, so the answer is i more than that of the rest.
 use mathlib.Core.Path.{_≡_, sym, ap, _∙_}
-use Prim.Native.Nat.{ℕ, _+_, _-_, _*_, _≤_, _<_}
+use Prim.Native.Nat.{_+_, _-_, _≤_, _<_}
 use native.Mathlib.Omega.{arith}
-use lib.ListN.{length, drop}
+use lib.ListN.{length, getD, drop}
 use borrow.Author.Tests.{not-true, not-false}
 use Rattle.little_endian.specs.Words.{wordsFrom}
 use Rattle.little_endian.proofs.Turns.{wordsFrom-length, wordsFrom-at}
@@ -34,18 +34,27 @@ word-at-requires c κs = search needs
 is-finite-requires : tie.Need-is-finite-requires Inv-loop μ-loop
 is-finite-requires c κs = search needs
 
-returns : tie.Need-returns Inv-loop μ-loop
-returns c =
-    let turn = c .before .before .before .before in
+-- the word that a turn tests is one of the run
+tested : (c : tie.After-is-finite Inv-loop μ-loop) →
+    let turn = c .before .before .before in
+    let start = turn .before .before in
+    let run = wordsFrom (start .args .bytes .now) (start .args .at) (start .args .count) in
+    (turn .loop .i < length run) × (finite (getD run (turn .loop .i) 0) ≡ c .is-finite .result)
+tested c =
+    let turn = c .before .before .before in
     let start = turn .before .before in
     let bytes = start .args .bytes .now in
-    let at = start .args .at in
-    let count = start .args .count in
-    let i = turn .loop .i in
-    let here : i < count = search needs in
-    let within : i < length (wordsFrom bytes at count) = omega (arith, here, wordsFrom-length bytes at count (start .pre)) in
-    let test = ap finite (wordsFrom-at bytes at count (start .pre) i here ∙ sym (c .before .before .word-at .ensures)) ∙ sym (c .before .is-finite .ensures) in
-    sym (lowestBad-bad finite (wordsFrom bytes at count) i within (test ∙ not-true _ (c .if1 .taken))) ∙ turn .loop .inv .1
+    let here : turn .loop .i < start .args .count = search needs in
+    let word = wordsFrom-at bytes (start .args .at) (start .args .count) (start .pre) (turn .loop .i) here ∙ sym (c .before .word-at .ensures) in
+    (omega (arith, here, wordsFrom-length bytes (start .args .at) (start .args .count) (start .pre)), ap finite word ∙ sym (c .is-finite .ensures))
+
+returns : tie.Need-returns Inv-loop μ-loop
+returns c =
+    let test = c .before in
+    let turn = test .before .before .before in
+    let start = turn .before .before in
+    let run = wordsFrom (start .args .bytes .now) (start .args .at) (start .args .count) in
+    sym (lowestBad-bad finite run (turn .loop .i) (tested test .0) (tested test .1 ∙ not-true _ (c .if1 .taken))) ∙ turn .loop .inv .1
 
 add-i : tie.Need-add-i Inv-loop μ-loop
 add-i c = search needs
@@ -55,16 +64,11 @@ loop-less c = search needs
 
 loop-again : tie.Need-loop-again Inv-loop μ-loop
 loop-again c =
-    let turn = c .before .before .before .before in
+    let test = c .before in
+    let turn = test .before .before .before in
     let start = turn .before .before in
-    let bytes = start .args .bytes .now in
-    let at = start .args .at in
-    let count = start .args .count in
-    let i = turn .loop .i in
-    let here : i < count = search needs in
-    let within : i < length (wordsFrom bytes at count) = omega (arith, here, wordsFrom-length bytes at count (start .pre)) in
-    let test = ap finite (wordsFrom-at bytes at count (start .pre) i here ∙ sym (c .before .before .word-at .ensures)) ∙ sym (c .before .is-finite .ensures) in
-    (search needs, sym (lowestBad-good finite (wordsFrom bytes at count) i within (test ∙ not-false _ (c .if1 .left))) ∙ turn .loop .inv .1)
+    let run = wordsFrom (start .args .bytes .now) (start .args .at) (start .args .count) in
+    (search needs, sym (lowestBad-good finite run (turn .loop .i) (tested test .0) (tested test .1 ∙ not-false _ (c .if1 .left))) ∙ turn .loop .inv .1)
 
 returns-2 : tie.Need-returns-2 Inv-loop μ-loop
 returns-2 c =

@@ -1,5 +1,5 @@
 -- `reader::read_mesh`: a refusal leaves both buffers, and what passed has the length that the copy asks for.
-use mathlib.Core.Path.{_≡_, sym, ap, _∙_}
+use mathlib.Core.Path.{sym, ap, _∙_}
 use Rattle.mesh_record.specs.declared.Refusal.{Refusal}
 use Rattle.mesh_record.specs.Reading.{left, refused}
 use Rattle.mesh_record.proofs.Passed.{refusalIn-known}

@@ -1,5 +1,5 @@
 -- `reader::refusal_in`: the parts in the order of the definition; what the fields showed lets the contents be read.
-use mathlib.Core.Path.{_≡_, sym, ap, _∙_}
+use mathlib.Core.Path.{sym, ap, _∙_}
 use Prim.Native.Nat.{_≤_}
 use native.Mathlib.Omega.{arith}
 use lib.ListN.{length}
