@@ -32,12 +32,13 @@ use Rattle.marching_cubes.proofs.ByCause.{accepted, room-enough}
 use Rattle.marching_cubes.proofs.Demands.{demand-3}
 use Rattle.mesh_record.specs.Mesh.{Mesh, vertexCount, recordBytes, Good}
 use Rattle.mesh_record.specs.Refusals.{none}
-use Rattle.mesh_record.specs.Reading.{meshIn}
+use Rattle.mesh_record.specs.Reading.{meshIn, reading}
+use Rattle.mesh_record.specs.Reading.{left as Reading·left}
 use Rattle.mesh_record.proofs.Passed.{neither-left, neither-right}
-use Rattle.mesh_write.specs.Writing.{meshOf, refusalOf}
+use Rattle.mesh_write.specs.Writing.{meshOf, refusalOf, Written, writing}
 use Rattle.mesh_round_trip.proofs.FiniteBits.{number, Floats, bits-small, bits-finite}
 use Rattle.mesh_round_trip.proofs.Records.{record-holds}
-use Rattle.mesh_round_trip.proofs.ReadBack.{good-unrefused}
+use Rattle.mesh_round_trip.proofs.ReadBack.{good-unrefused, good-written, written-read}
 
 -- ---- what passed, where the cause is 0
 
@@ -212,25 +213,36 @@ module _ (n numbering : ℕ) (samples : List Float) (held : Floats samples) (wor
   all-done : Done n numbering samples work vertices indices
   all-done = outcome-passed n numbering samples work vertices indices (sym (ap (λ (o : Outcome). o .answer .cause) promise) ∙ cause)
 
+  abbrev floats-left : List Float
+  floats-left = take (3 * answer .vertices) vertices-left
+
+  abbrev list-left : List ℕ
+  list-left = take (answer .indices) indices-left
+
+  all-left : Outcome·left answer work-left vertices-left indices-left
+      ≡ meshed n numbering samples work vertices indices 0 (surfaceOf n numbering samples)
+      (over (floatsOf (map (positionAt n samples) (surfaceOf n numbering samples .made))) vertices) (over (surfaceOf n numbering samples .indices) indices)
+  all-left =
+      let d = all-done in
+      promise ∙ accepted n numbering samples work vertices indices (d .least) (d .most) (d .known) (d .whole) (d .work-room) (d .none-bad)
+      ∙ room-enough n numbering samples work vertices indices (surfaceOf n numbering samples) (d .vertex-room) (d .index-room)
+
+  front-is : floatsOf (map (positionAt n samples) (surfaceOf n numbering samples .made)) ≡ floats-left
+  front-is =
+      let floats : List Float = floatsOf (map (positionAt n samples) (surfaceOf n numbering samples .made)) in
+      sym (ap (λ (o : Outcome). take (3 * o .answer .vertices) (o .vertices)) all-left
+      ∙ take-at floats (drop (length floats) vertices) _ (floats-length n numbering samples held work vertices indices all-done))
+
+  list-is : surfaceOf n numbering samples .indices ≡ list-left
+  list-is =
+      let list = surfaceOf n numbering samples .indices in
+      sym (ap (λ (o : Outcome). take (o .answer .indices) (o .indices)) all-left ∙ take-append-seam list (drop (length list) indices))
+
   abbrev extracted : Mesh
-  extracted = meshOf n numbering (take (3 * answer .vertices) vertices-left) (take (answer .indices) indices-left)
+  extracted = meshOf n numbering floats-left list-left
 
   extracted-is : meshOf n numbering (floatsOf (map (positionAt n samples) (surfaceOf n numbering samples .made))) (surfaceOf n numbering samples .indices) ≡ extracted
-  extracted-is =
-      let s : Surface = surfaceOf n numbering samples in
-      let floats : List Float = floatsOf (map (positionAt n samples) (s .made)) in
-      let d = all-done in
-      let all = promise ∙ accepted n numbering samples work vertices indices (d .least) (d .most) (d .known) (d .whole) (d .work-room) (d .none-bad)
-      ∙ room-enough n numbering samples work vertices indices s (d .vertex-room) (d .index-room) in
-      let count : answer .vertices ≡ length (s .made) = ap (λ (o : Outcome). o .answer .vertices) all in
-      let written : vertices-left ≡ over floats vertices = ap (λ (o : Outcome). o .vertices) all in
-      let front : take (3 * answer .vertices) vertices-left ≡ floats =
-      ap (take (3 * answer .vertices)) written
-      ∙ take-at floats (drop (length floats) vertices) (3 * answer .vertices) (floats-length n numbering samples held work vertices indices d ∙ ap (λ (k : ℕ). 3 * k) (sym count)) in
-      let listed : take (answer .indices) indices-left ≡ s .indices =
-      ap₂ (λ (k : ℕ) (l : List ℕ). take k l) (ap (λ (o : Outcome). o .answer .indices) all) (ap (λ (o : Outcome). o .indices) all)
-      ∙ take-append-seam (s .indices) (drop (length (s .indices)) indices) in
-      ap₂ (λ (f : List Float) (l : List ℕ). meshOf n numbering f l) (sym front) (sym listed)
+  extracted-is = ap₂ (λ (f : List Float) (l : List ℕ). meshOf n numbering f l) front-is list-is
 
   pub extract-good : Good (meshOf n numbering (take (3 * answer .vertices) vertices-left) (take (answer .indices) indices-left))
   extract-good = subst Good extracted-is (surface-good n numbering samples held work vertices indices all-done)
@@ -241,3 +253,16 @@ module _ (n numbering : ℕ) (samples : List Float) (held : Floats samples) (wor
   pub extract-read-back : meshIn (recordBytes (meshOf n numbering (take (3 * answer .vertices) vertices-left) (take (answer .indices) indices-left)))
       ≡ meshOf n numbering (take (3 * answer .vertices) vertices-left) (take (answer .indices) indices-left)
   extract-read-back = record-holds extracted extract-good
+
+  -- The two calls together: with room for the record, and then for the mesh, what was extracted is written, and read again as it was.
+  pub extract-round-trip : (out : List ℕ) (floats : List Float) (words : List ℕ)
+      → length (recordBytes (meshOf n numbering (take (3 * answer .vertices) vertices-left) (take (answer .indices) indices-left))) ≤ length out
+      → length (take (3 * answer .vertices) vertices-left) ≤ length floats → length (take (answer .indices) indices-left) ≤ length words
+      → let w = writing 1 (meshOf n numbering (take (3 * answer .vertices) vertices-left) (take (answer .indices) indices-left)) out in
+      reading (take (w .answer .bytes) (w .out)) floats words
+      ≡ Reading·left (record { cause = 0; size = n; numbering = numbering; place = 0; vertices = length (take (3 * answer .vertices) vertices-left) / 3; indices = length (take (answer .indices) indices-left) })
+      (over (take (3 * answer .vertices) vertices-left) floats) (over (take (answer .indices) indices-left) words)
+  extract-round-trip out floats words room vertex-room index-room =
+      written-read 1 n numbering floats-left list-left out
+      (subst Floats front-is (floats-fit n numbering samples held work vertices indices all-done))
+      (ap (λ (w : Written). w .answer .cause) (good-written extracted extract-good out room)) floats words vertex-room index-room

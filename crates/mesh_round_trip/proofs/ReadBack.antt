@@ -62,6 +62,13 @@ good-unrefused m good =
     (good .indices-whole) (omega (arith, good .indices-word)) offset in
     rw (← first, ← second, ← contents-none m good)
 
+-- With the room for its record it is written.
+pub good-written : (m : Mesh) → Good m → (out : List ℕ) → length (recordBytes m) ≤ length out
+    → writing 1 m out ≡ left (answered 0 0 (length (recordBytes m))) (over (recordBytes m) out)
+unfolding put
+good-written m good out room =
+    sym (writing-passed 1 m out none (sym (good-unrefused m good)) (put m out) refl refl) ∙ rw (le-ltb (length out) (length (recordBytes m)) room)
+
 -- ---- what is left after cause 0
 
 -- what holds where the writer is done
@@ -193,13 +200,11 @@ module _ (bytes : List ℕ) (small : Below 256 bytes) (floats : List Float) (wor
       → writing 1 (meshOf (reading bytes floats words .answer .size) (reading bytes floats words .answer .numbering)
       (take (3 * reading bytes floats words .answer .vertices) (reading bytes floats words .coordinates)) (take (reading bytes floats words .answer .indices) (reading bytes floats words .indices))) out
       ≡ left (answered 0 0 (length bytes)) (over bytes out)
-  unfolding put
   read-written room =
       let same = accepted-again bytes small (is-read .accepted) in
-      let enough : length (recordBytes held-mesh) ≤ length out = omega (arith, room, ap length same) in
       ap (λ (k : Mesh). writing 1 k out) read-again
-      ∙ sym (writing-passed 1 held-mesh out none (sym (good-unrefused held-mesh is-good)) (put held-mesh out) refl refl)
-      ∙ (rw (le-ltb (length out) (length (recordBytes held-mesh)) enough) (ap (λ (l : List ℕ). left (answered 0 0 (length l)) (over l out)) same))
+      ∙ good-written held-mesh is-good out (omega (arith, room, ap length same))
+      ∙ ap (λ (l : List ℕ). left (answered 0 0 (length l)) (over l out)) same
 
 -- ---- refused
 
