@@ -124,16 +124,28 @@ sets-append l i [] q = ap (λ (k : ℕ). sets l k q) (sym (add-zero i))
 sets-append l i (a ∷ p) q =
     sets-append (set l i a) (suc i) p q ∙ ap (λ (k : ℕ). sets (sets l i (a ∷ p)) k q) (suc-add i (length p) ∙ sym (add-suc i (length p)))
 
--- four stores are the bytes of a word
-module _ (l : List ℕ) (at : ℕ) (a b c d : ℕ) where
-  pub put-four : set (set (set (set l at a) (at + 1) b) (at + 2) c) (at + 3) d ≡ sets l at (a ∷ b ∷ c ∷ d ∷ [])
+-- four stores are the bytes of a word, and each is within
+module _ (l : List ℕ) (at w : ℕ) where
+  abbrev pub first-put : List ℕ
+  first-put = set l at (w % 256)
+
+  abbrev pub second-put : List ℕ
+  second-put = set first-put (at + 1) (w / 256 % 256)
+
+  abbrev pub third-put : List ℕ
+  third-put = set second-put (at + 2) (w / 65536 % 256)
+
+  pub put-four : set third-put (at + 3) (w / 16777216 % 256) ≡ sets l at (wordBytes w)
+  unfolding wordBytes
   put-four = rw (add-one at, add-two at, add-three at)
 
-  pub second-within : at + 4 ≤ length l → at + 1 < length (set l at a)
-  second-within h = lt-length-set l at a (omega arith)
+  module _ (room : at + 4 ≤ length l) where
+    pub second-within : at + 1 < length first-put
+    second-within = lt-length-set l at (w % 256) (omega arith)
 
-  pub third-within : at + 4 ≤ length l → at + 2 < length (set (set l at a) (at + 1) b)
-  third-within h = lt-length-set (set l at a) (at + 1) b (lt-length-set l at a (omega arith))
+    pub third-within : at + 2 < length second-put
+    third-within = lt-length-set first-put (at + 1) (w / 256 % 256) (lt-length-set l at (w % 256) (omega arith))
 
-  pub fourth-within : at + 4 ≤ length l → at + 3 < length (set (set (set l at a) (at + 1) b) (at + 2) c)
-  fourth-within h = lt-length-set (set (set l at a) (at + 1) b) (at + 2) c (lt-length-set (set l at a) (at + 1) b (lt-length-set l at a (omega arith)))
+    pub fourth-within : at + 3 < length third-put
+    fourth-within =
+        lt-length-set second-put (at + 2) (w / 65536 % 256) (lt-length-set first-put (at + 1) (w / 256 % 256) (lt-length-set l at (w % 256) (omega arith)))

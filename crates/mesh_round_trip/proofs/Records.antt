@@ -9,7 +9,7 @@ use lib.Seq.{take-length, take-append-seam, take-all, drop-at, drop-drop}
 use borrow.Author.Tests.{lt-ltb}
 use Rattle.little_endian.specs.Words.{wordAt, words, wordsFrom, bytesOf}
 use Rattle.little_endian.proofs.Words.{words-length, words-at, words-drop}
-use Rattle.little_endian.proofs.Bytes.{Below, below-cons, below-append, below-take, below-drop, bytesOf-length, words-bytesOf, bytesOf-words, words-below, wordAt-lt}
+use Rattle.little_endian.proofs.Bytes.{Below, below-cons, below-append, below-take, below-drop, words-bytesOf, bytesOf-words, words-below, wordAt-lt}
 use Rattle.mesh_record.specs.declared.Refusal.{Refusal}
 use Rattle.mesh_record.specs.Mesh.{Mesh, vertexCount, finite, below, header, recordBytes, Good}
 use Rattle.mesh_record.specs.Refusals.{none, lowestBad, contents}
@@ -18,6 +18,7 @@ use Rattle.mesh_record.proofs.LowestBad.{all-lowestBad}
 use Rattle.mesh_record.proofs.Checks.{opening-passed, fieldsIn-passed}
 use Rattle.mesh_record.proofs.Contents.{contents-passed, coordinates-length, indices-length, meshIn-vertices}
 use Rattle.mesh_record.proofs.Passed.{Whole, refusalIn-known, refusalIn-contents}
+use Rattle.mesh_write.proofs.Puts.{record-length}
 
 -- ---- seven words
 
@@ -50,10 +51,7 @@ module _ (m : Mesh) (good : Good m) where
   all-words = words-bytesOf (header m ++ m .coordinates ++ m .indices) (below-append 4294967296 (header m) (m .coordinates ++ m .indices) header-words contents-words)
 
   pub record-whole : length bytes ≡ 28 + 12 * vertexCount m + 4 * length (m .indices)
-  record-whole =
-      let count : length (header m ++ m .coordinates ++ m .indices) ≡ 7 + (length (m .coordinates) + length (m .indices)) =
-      length-append (header m) (m .coordinates ++ m .indices) ∙ ap (λ (k : ℕ). 7 + k) (length-append (m .coordinates) (m .indices)) in
-      omega (arith, bytesOf-length (header m ++ m .coordinates ++ m .indices), count, good .coordinates-whole)
+  record-whole = omega (arith, record-length m, good .coordinates-whole)
 
   -- the words of the header, by number
   header-word : (i place : ℕ) → i < 7 → 4 * i ≡ place → wordAt bytes place ≡ getD (header m ++ m .coordinates ++ m .indices) i 0
