@@ -26,6 +26,7 @@ extern "C" {
 #define BRIDGEYARN_SHORT_INDICES 7u   /* index buffer under I words                       */
 #define BRIDGEYARN_BAD_RECORD 8u      /* record malformed                                 */
 #define BRIDGEYARN_BAD_KEY 9u         /* a bad Morton key or child                        */
+#define BRIDGEYARN_SHORT_OUTPUT 10u   /* an output of a mesh record call too short        */
 
 /* ---- the extraction */
 
@@ -101,6 +102,54 @@ typedef struct {
  * (BAD_RECORD, place 20). The bytes are only read, and the samples not looked at; any bytes are taken, and none (NULL, 0).
  * Definition: recordAnswer (recordOf 128 bytes), crates/bridgeyarn/specs/Record.antt and crates/sample_record/specs/Record.antt. */
 bridgeyarn_record_answer bridgeyarn_record(const uint8_t *bytes, size_t length);
+
+/* ---- a mesh record
+ *
+ * Seven little-endian u32: version 1, size (2 to 128), numbering (0 or 1), vertex count V, byte place of the vertices, always 28, index count I, a
+ * multiple of three, and byte place of the indices, 28 + 12 * V; then the vertices, three little-endian f32 each, all finite; then the indices as
+ * little-endian u32, each below V; and nothing after them: the length is 28 + 12 * V + 4 * I. Two records of one mesh are the same bytes, and
+ * coordinates keep their bits, both zeros and subnormal values too. Definitions: recordBytes and Good, crates/mesh_record/specs/Mesh.antt. */
+
+typedef struct {
+    uint32_t cause;  /* 0, BAD_SIZE, BAD_NUMBERING, BAD_RECORD or SHORT_OUTPUT                  */
+    uint64_t place;  /* after BAD_RECORD: the byte place in the record to be                    */
+    uint64_t bytes;  /* after 0: how many were written; after SHORT_OUTPUT: how many are needed */
+} bridgeyarn_write_answer;
+
+/* The record of a mesh, or the first refusal in this order: version other than 1 (BAD_RECORD, place 0); BAD_SIZE; BAD_NUMBERING; coordinates not in
+ * threes, or V over 2^32 - 1 (BAD_RECORD, place 12); indices not in threes, or over 2^32 - 1 (BAD_RECORD, place 20); 28 + 12 * V over 2^32 - 1
+ * (BAD_RECORD, place 24); the lowest coordinate k that is not finite (BAD_RECORD, place 28 + 4 * k), then the lowest index k that is not below V
+ * (BAD_RECORD, place 28 + 12 * V + 4 * k); SHORT_OUTPUT.
+ *
+ * After 0           the record is the first `bytes` bytes of out, and the rest is unchanged.
+ * After any other   nothing lent has changed.
+ * Definition: writing, crates/mesh_write/specs/Writing.antt. */
+bridgeyarn_write_answer bridgeyarn_mesh_write(uint32_t version, uint32_t size, uint32_t numbering,
+    const float *coordinates, size_t coordinate_count,    /* count in floats: 3 * V */
+    const uint32_t *indices, size_t index_count,
+    uint8_t *out, size_t out_room);
+
+typedef struct {
+    uint32_t cause;      /* 0, BAD_SIZE, BAD_NUMBERING, BAD_RECORD or SHORT_OUTPUT */
+    uint32_t size;       /* after 0                                                */
+    uint32_t numbering;  /* after 0                                                */
+    uint64_t place;      /* after BAD_RECORD: the byte place                       */
+    uint64_t vertices;   /* after 0 and SHORT_OUTPUT: V                            */
+    uint64_t indices;    /* after 0 and SHORT_OUTPUT: I                            */
+} bridgeyarn_read_answer;
+
+/* The mesh of a record, or the first refusal in this order: under 28 bytes (BAD_RECORD, place = length); version other than 1 (BAD_RECORD, place 0);
+ * BAD_SIZE; BAD_NUMBERING; place of the vertices other than 28 (BAD_RECORD, place 16); index count not in threes (BAD_RECORD, place 20); place of the
+ * indices other than 28 + 12 * V (BAD_RECORD, place 24); length other than 28 + 12 * V + 4 * I (BAD_RECORD, place 24); the lowest word that is a
+ * coordinate not finite or an index not below V (BAD_RECORD, its byte place); SHORT_OUTPUT, where one of the rooms is too small, with the V and I to
+ * make room for. The bytes are only read; any bytes are taken, and none (NULL, 0).
+ *
+ * After 0           the first 3 * V floats of coordinates and I words of indices hold the mesh; the rest of both is unchanged.
+ * After any other   nothing lent has changed.
+ * Definition: reading, crates/mesh_record/specs/Reading.antt. */
+bridgeyarn_read_answer bridgeyarn_mesh_read(const uint8_t *bytes, size_t length,
+    float *coordinates, size_t coordinate_room,           /* room in floats: 3 * V are needed */
+    uint32_t *indices, size_t index_room);
 
 /* ---- Morton keys
  *

@@ -4,4 +4,5 @@ pub mod cell;
 pub mod edge;
 pub mod extraction;
 pub mod key;
+pub mod mesh;
 pub mod record;

@@ -1,4 +1,3 @@
 pub mod Putting
 pub mod Digits
-pub mod NotANumber
 pub mod Cases

@@ -1,19 +1,15 @@
 -- One piece after another is their whole. Every function that puts a line cites `put-then`.
 use mathlib.Core.Path.{_≡_, refl, sym, ap, _∙_}
 use mathlib.Core.List.{List, [], _∷_, _++_}
-use Prim.Native.Nat.{ℕ, zero, suc, _+_, _≤_, _<_}
-use native.Mathlib.Nat.{zero-add, add-zero, add-suc, suc-add}
+use Prim.Native.Nat.{ℕ, _+_, _≤_, _<_}
+use native.Mathlib.Nat.{zero-add, add-suc, suc-add}
 use native.Mathlib.Numerals.{add-one}
 use native.Mathlib.Omega.{arith}
 use lib.ListN.{length, getD, take, drop, set, length-append}
 use lib.Seq.{sets, sets-eq, length-sets, take-suc, take-append-seam}
+use Rattle.little_endian.proofs.Bytes.{sets-append}
 use Rattle.listing_text.specs.Put.{Put}
 use Rattle.listing_text.specs.Lines.{linesOf}
-
-pub sets-append : (l : List ℕ) (i : ℕ) (p q : List ℕ) → sets l i (p ++ q) ≡ sets (sets l i p) (i + length p) q
-sets-append l i [] q = ap (λ (k : ℕ). sets l k q) (sym (add-zero i))
-sets-append l i (a ∷ p) q =
-    sets-append (set l i a) (suc i) p q ∙ ap (λ (k : ℕ). sets (sets l i (a ∷ p)) k q) (suc-add i (length p) ∙ sym (add-suc i (length p)))
 
 pub put-then : {a b c p q : List ℕ} {i j k : ℕ} → Put a i p b j → Put b j q c k → Put a i (p ++ q) c k
 put-then {a} {b} {c} {p} {q} {i} {j} {k} f s =

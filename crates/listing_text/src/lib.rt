@@ -3,10 +3,10 @@
 // nothing but the piece was written.
 pub mod lines;
 
+use little_endian::bits_of;
 ghost use mathlib.Core.Path.{_≡_};
 ghost use Prim.Native.Nat.{_+_, _<_, _≤_};
 ghost use lib.ListN.{length};
-ghost use lib.Ieee.{binary32, toBits};
 ghost use Rattle.listing_text.specs.Put.{Put};
 ghost use Rattle.listing_text.specs.Digits.{digits, placesWithin, numberWord, floatWord};
 ghost use Rattle.listing_text.specs.Digits.{glyph as Digits·glyph};
@@ -73,14 +73,6 @@ pub fn put_number(text: &mut [u8], at: usize, n: u64) -> usize
     let places = places_within(19, n);
     text[at] = b' ';
     put_digits(text, at + 1, 10, places, n)
-}
-
-// The bits of a float. The language gives none for a NaN, which no mesh has; the pattern here is the
-// model's.
-fn bits_of(x: f32) -> u32
-    ensures { λ r. ⌜ r ≡ toBits binary32 x ⌝ }
-{
-    if x == x { f32::to_bits(x) } else { 0x7FC0_0000 }
 }
 
 // A space and the eight hex digits of a float's bits.

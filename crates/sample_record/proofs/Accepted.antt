@@ -9,7 +9,7 @@ use lib.Dec.{T, ltb, eqb}
 use lib.ListN.{length}
 use borrow.Author.Tests.{ltb-false, eqb-true, not-false}
 use Rattle.sample_record.specs.declared.Record.the-variants.{Holds, Malformed, BadSize, BadNumbering, BadCount}
-use Rattle.sample_record.specs.Words.{wordAt}
+use Rattle.little_endian.specs.Words.{wordAt}
 use Rattle.sample_record.specs.Record.{sampleCount, recordOf, causeOf, sizeOf, numberingOf}
 use Rattle.sample_record.specs.Samples.{samplesOf}
 use Rattle.sample_record.proofs.Copy.{samplesOf-length}

@@ -9,7 +9,7 @@ use lib.ListN.{replicate, take}
 use lib.Ieee.{Float, nan, fin, ofBits}
 use Rattle.sample_record.specs.declared.Record.{Record}
 use Rattle.sample_record.specs.declared.Record.the-variants.{Holds, Malformed, BadSize, BadNumbering, BadCount}
-use Rattle.sample_record.specs.Words.{wordAt}
+use Rattle.little_endian.specs.Words.{wordAt}
 use Rattle.sample_record.specs.Record.{recordOf}
 use Rattle.sample_record.specs.Samples.{samplesOf}
 

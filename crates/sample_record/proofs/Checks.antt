@@ -8,7 +8,7 @@ use lib.Dec.{ltb, eqb}
 use lib.ListN.{length}
 use borrow.Author.Tests.{lt-ltb, le-ltb, eq-eqb, ne-eqb}
 use Rattle.sample_record.specs.declared.Record.the-variants.{Holds, Malformed, BadSize, BadNumbering, BadCount}
-use Rattle.sample_record.specs.Words.{wordAt}
+use Rattle.little_endian.specs.Words.{wordAt}
 use Rattle.sample_record.specs.Record.{sampleCount, recordOf}
 
 module _ (limit : ℕ) (bytes : List ℕ) where

@@ -1,36 +1,36 @@
--- Copying a record's samples into a buffer one by one: how many there are, what each is, and what one turn does.
-use mathlib.Core.Path.{_≡_, ap, _∙_}
-use mathlib.Core.List.{List, _++_}
-use Prim.Native.Nat.{ℕ, _+_, _-_, _*_, _/_, _<_, min}
-use native.Mathlib.Nat.{zero-add}
-use native.Mathlib.Numerals.{add-one}
+-- The samples of a record by number, and a run of them copied into a buffer. `samples::copied_count` and `samples::copy_samples` cite these.
+use mathlib.Core.Path.{_≡_, refl, sym, ap, _∙_}
+use mathlib.Core.List.{List, [], _∷_, _++_, map}
+use Prim.Native.Nat.{ℕ, zero, suc, _+_, _-_, _*_, _/_, _≤_, min}
 use native.Mathlib.Omega.{arith}
-use lib.ListN.{length, getD, take, drop, set, length-drop, length-map, List·getD-map}
-use lib.Seq.{paste-suc}
+use lib.ListN.{length, take, drop, length-drop, length-map, length-take}
 use lib.Ieee.{Float, binary32, ofBits}
-use Rattle.sample_record.specs.Words.{wordAt, words}
-use Rattle.sample_record.specs.Samples.{samplesOf}
-use Rattle.sample_record.proofs.Words.{words-length, words-from}
+use Rattle.little_endian.specs.Words.{words, wordsFrom, over}
+use Rattle.little_endian.proofs.Words.{words-length}
+use Rattle.sample_record.specs.Samples.{samplesOf, copied}
+
+map-take : (f : ℕ → Float) (n : ℕ) (l : List ℕ) → map f (take n l) ≡ take n (map f l)
+map-take f zero l = refl
+map-take f (suc n) [] = refl
+map-take f (suc n) (x ∷ l) = ap (λ (r : List Float). f x ∷ r) (map-take f n l)
 
 module _ (bytes : List ℕ) where
   pub samplesOf-length : length (samplesOf bytes) ≡ (length bytes - 20) / 4
   samplesOf-length =
       length-map (words (drop 20 bytes)) (ofBits binary32) ∙ words-length (drop 20 bytes) ∙ ap (λ (n : ℕ). n / 4) (length-drop 20 bytes)
 
-  pub samplesOf-at : (i : ℕ) → i < length (samplesOf bytes) → getD (samplesOf bytes) i (ofBits binary32 0) ≡ ofBits binary32 (wordAt bytes (20 + 4 * i))
-  samplesOf-at i h =
-      let within : i < length (words (drop 20 bytes)) = omega (arith, length-map (words (drop 20 bytes)) (ofBits binary32)) in
-      List·getD-map (ofBits binary32) (words (drop 20 bytes)) i 0 ∙ ap (ofBits binary32) (words-from bytes 20 i within)
+module _ (bytes : List ℕ) (buffer : List Float) (count : ℕ) (is : count ≡ min (length buffer) (length (samplesOf bytes))) where
+  pub copied-none : count ≡ 0 → buffer ≡ copied bytes buffer
+  copied-none none = sym (ap (λ (k : ℕ). take k (samplesOf bytes) ++ drop k buffer) (sym is ∙ none))
 
--- the buffer after i turns
-abbrev pub copiedTo : List ℕ → List Float → ℕ → List Float
-copiedTo bytes buffer i = take i (samplesOf bytes) ++ drop i buffer
+  pub copied-run : over (map (ofBits binary32) (wordsFrom bytes 20 count)) buffer ≡ copied bytes buffer
+  copied-run =
+      let run : map (ofBits binary32) (wordsFrom bytes 20 count) ≡ take count (samplesOf bytes) = map-take (ofBits binary32) count (words (drop 20 bytes)) in
+      let long : length (take count (samplesOf bytes)) ≡ count = omega (arith, length-take count (samplesOf bytes), is) in
+      ap (λ (l : List Float). over l buffer) run
+      ∙ ap (λ (k : ℕ). take count (samplesOf bytes) ++ drop k buffer) long
+      ∙ ap (λ (k : ℕ). take k (samplesOf bytes) ++ drop k buffer) is
 
-module _ (bytes : List ℕ) (buffer : List Float) where
-  pub copiedTo-suc : (i : ℕ) → i < min (length buffer) (length (samplesOf bytes))
-      → set (copiedTo bytes buffer i) i (ofBits binary32 (wordAt bytes (20 + 4 * i))) ≡ copiedTo bytes buffer (i + 1)
-  copiedTo-suc i h =
-      let room : 0 + i < length buffer = omega arith in
-      let within : i < length (samplesOf bytes) = omega arith in
-      let turn = paste-suc buffer 0 (samplesOf bytes) i (ofBits binary32 0) room within in
-      rw (← samplesOf-at bytes i within) (simp (zero-add, ← add-one) at turn)
+  -- some are copied, so the bytes have a header
+  pub run-within : (count ≡ 0 → ⊥) → 20 + 4 * count ≤ length bytes
+  run-within some = omega (arith, is, samplesOf-length bytes, some)

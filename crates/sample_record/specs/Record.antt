@@ -7,7 +7,7 @@ use lib.Dec.{ltb, eqb}
 use lib.ListN.{length}
 use Rattle.sample_record.specs.declared.Record.{Record}
 use Rattle.sample_record.specs.declared.Record.the-variants.{Holds, Malformed, BadSize, BadNumbering, BadCount}
-use Rattle.sample_record.specs.Words.{wordAt}
+use Rattle.little_endian.specs.Words.{wordAt}
 
 -- the samples of a grid of this size
 abbrev pub sampleCount : ℕ → ℕ

@@ -3,7 +3,7 @@ use mathlib.Core.List.{List, map, _++_}
 use Prim.Native.Nat.{ℕ, min}
 use lib.ListN.{length, take, drop}
 use lib.Ieee.{Float, binary32, ofBits}
-use Rattle.sample_record.specs.Words.{words}
+use Rattle.little_endian.specs.Words.{words}
 
 -- every bit pattern of a NaN is the one `nan`
 abbrev pub samplesOf : List ℕ → List Float

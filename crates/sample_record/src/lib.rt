@@ -3,10 +3,9 @@
 // that no bytes make one overflow.
 pub mod samples;
 
+use little_endian::word_at;
 ghost use mathlib.Core.Path.{_≡_};
-ghost use Prim.Native.Nat.{_+_, _<_, _≤_};
-ghost use lib.ListN.{length};
-ghost use Rattle.sample_record.specs.Words.{word, wordAt};
+ghost use Prim.Native.Nat.{_<_};
 ghost use Rattle.sample_record.specs.Record.{sampleCount, recordOf, causeOf, placeOf, sizeOf, numberingOf};
 
 // What a record answers: what it holds, or the first of the refusals in document 01's order. A
@@ -17,21 +16,6 @@ pub enum Record {
     BadSize,
     BadNumbering,
     BadCount,
-}
-
-// The u32 of four bytes, the lowest first.
-pub(crate) fn word(a: u8, b: u8, c: u8, d: u8) -> u32
-    ensures { λ r. ⌜ r ≡ word a b c d ⌝ }
-{
-    a as u32 + 256 * (b as u32 + 256 * (c as u32 + 256 * (d as u32)))
-}
-
-// The u32 that begins at a byte place.
-pub(crate) fn word_at(bytes: &[u8], at: usize) -> u32
-    requires { ⌜ at + 4 ≤ length (now bytes) ⌝ }
-    ensures { λ r. ⌜ r ≡ wordAt (now (bytes .entry)) at ⌝ }
-{
-    word(bytes[at], bytes[at + 1], bytes[at + 2], bytes[at + 3])
 }
 
 // The samples of a grid of this size.

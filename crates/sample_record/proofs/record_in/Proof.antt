@@ -5,7 +5,7 @@ use Prim.Native.Nat.{_≤_}
 use native.Mathlib.Omega.{arith}
 use lib.ListN.{length}
 use borrow.Author.Needs.{needs}
-use Rattle.sample_record.specs.Words.{wordAt}
+use Rattle.little_endian.specs.Words.{wordAt}
 use Rattle.sample_record.specs.Record.{sampleCount}
 use Rattle.sample_record.proofs.Checks.{recordOf-short, recordOf-version, recordOf-small, recordOf-large, recordOf-numbering, recordOf-count, recordOf-offset, recordOf-length, recordOf-whole}
 use Rattle.sample_record.proofs.record_in.Statement.{statement}

@@ -1,0 +1,36 @@
+// The writer and the reader of mesh records.
+use mesh_record::ReadAnswer;
+use mesh_write::WriteAnswer;
+ghost use mathlib.Core.Path.{_≡_};
+ghost use Rattle.mesh_record.specs.Reading.{reading};
+ghost use Rattle.mesh_record.specs.Reading.{left as Reading·left};
+ghost use Rattle.mesh_write.specs.Writing.{meshOf, left, writing};
+
+// The record of the lent coordinates and indices into the lent bytes; see `write_mesh`.
+#[no_mangle]
+pub extern "C" fn bridgeyarn_mesh_write(
+    version: u32,
+    size: u32,
+    numbering: u32,
+    coordinates: &[f32],
+    indices: &[u32],
+    out: &mut [u8],
+) -> WriteAnswer
+    ensures { λ r. ⌜ left r (now (out .exit))
+        ≡ writing version (meshOf size numbering (now (coordinates .entry)) (now (indices .entry))) (now (out .entry)) ⌝ }
+{
+    mesh_write::write_mesh(version, size, numbering, coordinates, indices, out)
+}
+
+// The mesh of a record into the lent coordinates and indices; see `read_mesh`.
+#[no_mangle]
+pub extern "C" fn bridgeyarn_mesh_read(
+    bytes: &[u8],
+    coordinates: &mut [f32],
+    indices: &mut [u32],
+) -> ReadAnswer
+    ensures { λ r. ⌜ Reading·left r (now (coordinates .exit)) (now (indices .exit))
+        ≡ reading (now (bytes .entry)) (now (coordinates .entry)) (now (indices .entry)) ⌝ }
+{
+    mesh_record::reader::read_mesh(bytes, coordinates, indices)
+}

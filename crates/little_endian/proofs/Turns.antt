@@ -1,0 +1,72 @@
+-- Runs of words: how many there are, what each is, and what one turn of a copy does.
+use mathlib.Core.Path.{_≡_, refl, sym, ap, _∙_}
+use mathlib.Core.List.{List, [], _∷_, _++_, map, append-nil}
+use Prim.Native.Nat.{ℕ, zero, suc, _+_, _-_, _*_, _≤_, _<_, min}
+use native.Mathlib.Nat.{zero-add}
+use native.Mathlib.Numerals.{add-one}
+use native.Mathlib.Omega.{arith}
+use lib.ListN.{length, getD, take, drop, set, length-take, length-drop}
+use lib.Seq.{sets, paste-suc, take-suc, take-length, getD-take}
+use Rattle.little_endian.specs.Words.{wordAt, words, wordsFrom, wordBytes, bytesOf, over}
+use Rattle.little_endian.proofs.Words.{words-length, words-from}
+use Rattle.little_endian.proofs.Bytes.{bytesOf-length, bytesOf-append, sets-append}
+
+-- ---- out of bytes
+
+module _ (bytes : List ℕ) (at count : ℕ) (within : at + 4 * count ≤ length bytes) where
+  words-enough : count ≤ length (words (drop at bytes))
+  words-enough = omega (arith, words-length (drop at bytes), length-drop at bytes)
+
+  pub wordsFrom-length : length (wordsFrom bytes at count) ≡ count
+  wordsFrom-length = let h = words-enough in omega (arith, length-take count (words (drop at bytes)))
+
+  pub wordsFrom-at : (i : ℕ) → i < count → getD (wordsFrom bytes at count) i 0 ≡ wordAt bytes (at + 4 * i)
+  wordsFrom-at i h = let all = words-enough in getD-take count (words (drop at bytes)) i 0 h ∙ words-from bytes at i (omega arith)
+
+pub getD-map-at : {A B : Type 0} (f : A → B) (l : List A) (i : ℕ) (d : A) (e : B) → i < length l → getD (map f l) i e ≡ f (getD l i d)
+getD-map-at f [] i d e h = absurd (omega arith)
+getD-map-at f (x ∷ l) zero d e h = refl
+getD-map-at f (x ∷ l) (suc i) d e h = getD-map-at f l i d e (omega arith)
+
+-- the buffer after i turns
+abbrev pub copiedTo : {A : Type 0} → List A → List A → ℕ → List A
+copiedTo l buffer i = take i l ++ drop i buffer
+
+module _ {A : Type 0} (l buffer : List A) where
+  pub copiedTo-suc : (i : ℕ) (d : A) → i < length l → i < length buffer → set (copiedTo l buffer i) i (getD l i d) ≡ copiedTo l buffer (i + 1)
+  copiedTo-suc i d within room =
+      let turn = paste-suc buffer 0 l i d (omega arith) within in
+      simp (zero-add, ← add-one) at turn
+
+  pub copiedTo-end : (i : ℕ) → i ≡ length l → copiedTo l buffer i ≡ over l buffer
+  copiedTo-end i e = rw (e, take-length l)
+
+  pub copied-next : (current : List A) (i : ℕ) (d value : A) → i < length l → i < length buffer → current ≡ copiedTo l buffer i → value ≡ getD l i d
+      → set current i value ≡ copiedTo l buffer (i + 1)
+  copied-next current i d value within room is found = rw (is, found) (copiedTo-suc i d within room)
+
+-- ---- into bytes
+
+-- the bytes after i turns
+abbrev pub putTo : List ℕ → ℕ → List ℕ → ℕ → List ℕ
+putTo bytes at l i = sets bytes at (bytesOf (take i l))
+
+module _ (bytes : List ℕ) (at : ℕ) (l : List ℕ) where
+  pub putTo-suc : (i : ℕ) → i < length l → sets (putTo bytes at l i) (at + 4 * i) (wordBytes (getD l i 0)) ≡ putTo bytes at l (i + 1)
+  putTo-suc i within =
+      let taken : take (i + 1) l ≡ take i l ++ (getD l i 0 ∷ []) = ap (λ (k : ℕ). take k l) (add-one i) ∙ take-suc l i 0 within in
+      let more : bytesOf (take (i + 1) l) ≡ bytesOf (take i l) ++ wordBytes (getD l i 0) =
+      ap bytesOf taken ∙ bytesOf-append (take i l) (getD l i 0 ∷ []) ∙ ap (λ (p : List ℕ). bytesOf (take i l) ++ p) (append-nil (wordBytes (getD l i 0))) in
+      let before : length (bytesOf (take i l)) ≡ 4 * i = bytesOf-length (take i l) ∙ ap (λ (k : ℕ). 4 * k) (length-take i l ∙ lesser i (length l) within) in
+      sym (ap (sets bytes at) more ∙ sets-append bytes at (bytesOf (take i l)) (wordBytes (getD l i 0))
+      ∙ ap (λ (k : ℕ). sets (putTo bytes at l i) (at + k) (wordBytes (getD l i 0))) before)
+    where
+      lesser : (i n : ℕ) → i < n → min i n ≡ i
+      lesser i n h = omega arith
+
+  pub putTo-end : (i : ℕ) → i ≡ length l → putTo bytes at l i ≡ sets bytes at (bytesOf l)
+  putTo-end i e = ap (λ (k : List ℕ). sets bytes at (bytesOf k)) (ap (λ (k : ℕ). take k l) e ∙ take-length l)
+
+  pub put-next : (current : List ℕ) (i value : ℕ) (put : List ℕ) → i < length l → current ≡ putTo bytes at l i → value ≡ getD l i 0
+      → put ≡ sets current (at + 4 * i) (wordBytes value) → put ≡ putTo bytes at l (i + 1)
+  put-next current i value put within is found done = done ∙ rw (is, found) (putTo-suc i within)

@@ -1,0 +1,60 @@
+// Runs of words: out of lent bytes into words or floats, and back.
+use crate::bits_of;
+use crate::float_of;
+use crate::put_word;
+use crate::word_at;
+ghost use mathlib.Core.Path.{_≡_};
+ghost use mathlib.Core.List.{map};
+ghost use Prim.Native.Nat.{_+_, _*_, _≤_};
+ghost use lib.ListN.{length};
+ghost use lib.Seq.{sets};
+ghost use lib.Ieee.{binary32, ofBits, toBits};
+ghost use Rattle.little_endian.specs.Words.{wordsFrom, bytesOf, over};
+
+// The words from a byte place on, into the front of a buffer.
+pub fn copy_words(bytes: &[u8], at: usize, count: usize, buffer: &mut [u32])
+    requires { ⌜ (at + 4 * count ≤ length (now bytes)) × (count ≤ length (now buffer)) ⌝ }
+    ensures { λ _. ⌜ now (buffer .exit) ≡ over (wordsFrom (now (bytes .entry)) at count) (now (buffer .entry)) ⌝ }
+{
+    let mut i = 0;
+    while i < count {
+        buffer[i] = word_at(bytes, at + 4 * i);
+        i += 1;
+    }
+}
+
+// The same, as floats.
+pub fn copy_floats(bytes: &[u8], at: usize, count: usize, buffer: &mut [f32])
+    requires { ⌜ (at + 4 * count ≤ length (now bytes)) × (count ≤ length (now buffer)) ⌝ }
+    ensures { λ _. ⌜ now (buffer .exit) ≡ over (map (ofBits binary32) (wordsFrom (now (bytes .entry)) at count)) (now (buffer .entry)) ⌝ }
+{
+    let mut i = 0;
+    while i < count {
+        buffer[i] = float_of(word_at(bytes, at + 4 * i));
+        i += 1;
+    }
+}
+
+// The bytes of words from a byte place on.
+pub fn put_words(bytes: &mut [u8], at: usize, list: &[u32])
+    requires { ⌜ at + 4 * length (now list) ≤ length (now bytes) ⌝ }
+    ensures { λ _. ⌜ now (bytes .exit) ≡ sets (now (bytes .entry)) at (bytesOf (now (list .entry))) ⌝ }
+{
+    let mut i = 0;
+    while i < list.len() {
+        put_word(bytes, at + 4 * i, list[i]);
+        i += 1;
+    }
+}
+
+// The same, of the bits of floats.
+pub fn put_floats(bytes: &mut [u8], at: usize, list: &[f32])
+    requires { ⌜ at + 4 * length (now list) ≤ length (now bytes) ⌝ }
+    ensures { λ _. ⌜ now (bytes .exit) ≡ sets (now (bytes .entry)) at (bytesOf (map (toBits binary32) (now (list .entry)))) ⌝ }
+{
+    let mut i = 0;
+    while i < list.len() {
+        put_word(bytes, at + 4 * i, bits_of(list[i]));
+        i += 1;
+    }
+}

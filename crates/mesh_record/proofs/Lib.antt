@@ -1,0 +1,6 @@
+pub mod LowestBad
+pub mod Checks
+pub mod Contents
+pub mod Passed
+pub mod Copies
+mod Cases

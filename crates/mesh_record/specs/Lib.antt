@@ -1,0 +1,3 @@
+pub mod Mesh
+pub mod Refusals
+pub mod Reading

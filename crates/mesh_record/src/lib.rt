@@ -1,0 +1,56 @@
+// The mesh record of document 02, CR 1: its checks, which the writer makes too, and its reader. What
+// is lent is written only after every check has passed.
+pub mod reader;
+
+ghost use mathlib.Core.Path.{_≡_};
+ghost use Rattle.mesh_record.specs.Refusals.{opening};
+ghost use Rattle.mesh_record.specs.Mesh.{finite};
+
+// A cause and its place; cause 0 refuses nothing. A field that the cause does not use is 0.
+pub struct Refusal {
+    pub cause: u32,
+    pub place: u64,
+}
+
+// What the reader answers. A field that the cause does not use is 0.
+#[repr(C)]
+pub struct ReadAnswer {
+    pub cause: u32,
+    pub size: u32,
+    pub numbering: u32,
+    pub place: u64,
+    pub vertices: u64,
+    pub indices: u64,
+}
+
+pub fn refused(cause: u32, place: u64) -> Refusal
+    ensures { λ r. ⌜ r ≡ record { cause = cause; place = place } ⌝ }
+{
+    Refusal { cause, place }
+}
+
+// The first words of a header, as the library takes a size and a numbering.
+pub fn opening(version: u32, size: u32, numbering: u32) -> Refusal
+    ensures { λ r. ⌜ r ≡ opening version size numbering ⌝ }
+{
+    if version != 1 {
+        return refused(8, 0);
+    }
+    if size < 2 {
+        return refused(1, 0);
+    }
+    if 128 < size {
+        return refused(1, 0);
+    }
+    if 1 < numbering {
+        return refused(2, 0);
+    }
+    refused(0, 0)
+}
+
+// Whether these are the bits of a finite float.
+pub fn is_finite(bits: u32) -> bool
+    ensures { λ r. ⌜ r ≡ finite bits ⌝ }
+{
+    bits % 0x8000_0000 < 0x7F80_0000
+}

@@ -1,0 +1,4 @@
+pub mod FiniteBits
+pub mod Records
+pub mod ReadBack
+pub mod Extracted
