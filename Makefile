@@ -3,16 +3,16 @@
 # make oracle N=..   compares that many small grids, and one in 5,000 as many large ones, with the Rust (SEED=.. for other grids)
 # make bench         times the library beside the Rust, counts its instructions and writes docs/BENCH.md; make bench-peers times VTK and scikit-image for it
 .DELETE_ON_ERROR:
-.PHONY: demo test bench bench-peers fuzz setup layout names evidence mutants unchanged header oracle archive listing planner prove crate-table
+.PHONY: demo test bench bench-peers fuzz setup layout names evidence mutants unchanged header oracle archive listing planner workshop workshop-peers prove crate-table
 
 CASES ?= 1000000
 SEED ?= 1
 HARNESS := build/oracle/release/harness
 
-demo: build/planner/planner build/planner/grid
+demo: build/planner/planner build/planner/grid build/workshop/workshop
 	demo/run
 
-test: layout names unchanged header oracle archive listing planner prove
+test: layout names unchanged header oracle archive listing planner workshop prove
 
 setup:
 	tools/setup cc c++ cargo python3
@@ -72,6 +72,14 @@ planner: build/planner/planner build/planner/grid build/planner/planner-checked
 	planner/test build/planner/grid tools/x86-64-run build/planner/planner
 	ASAN_OPTIONS=detect_leaks=0 planner/test build/planner/grid build/planner/planner-checked
 
+# the workshop's program, linked and checked as the planner is; readers of STL, OBJ and PLY files that are installed open what it writes
+workshop: build/workshop/workshop build/workshop/workshop-checked build/planner/planner build/planner/grid
+	workshop/test build/planner/grid build/planner/planner tools/x86-64-run build/workshop/workshop
+	ASAN_OPTIONS=detect_leaks=0 workshop/test build/planner/grid build/planner/planner build/workshop/workshop-checked
+
+workshop-peers:
+	apt-get install -y -qq python3-meshio admesh
+
 # the table of crates in the README: the lines as they are, and the seconds that LOG, the output of `rt ci`, has
 crate-table:
 	tools/crate-table $(LOG)
@@ -114,12 +122,27 @@ build/listing/program: $(SOURCES) $(LISTING_SOURCES) | setup
 	mkdir -p build/listing
 	cp target/bin/listing $@
 
-build/planner/%: planner/%.c include/bridgeyarn.h build/archive/libbridgeyarn.a
+PLANNER := planner/planner.c $(wildcard mesh_files/*.c)
+WORKSHOP := $(wildcard workshop/*.c mesh_files/*.c)
+HEADERS := $(wildcard include/*.h mesh_files/*.h workshop/*.h)
+CHECKED := cc -std=c99 -g -O1 -Wall -Wextra -Werror -pedantic -fsanitize=address,undefined -fno-sanitize-recover=all -Iinclude -Imesh_files
+
+build/planner/grid: planner/grid.c build/archive/libbridgeyarn.a
 	tools/x86-64-cc $@ $<
 
-build/planner/planner-checked: planner/planner.c include/bridgeyarn.h build/native/libbridgeyarn.a
+build/planner/planner: $(PLANNER) $(HEADERS) build/archive/libbridgeyarn.a
+	tools/x86-64-cc $@ $(PLANNER)
+
+build/workshop/workshop: $(WORKSHOP) $(HEADERS) build/archive/libbridgeyarn.a
+	tools/x86-64-cc $@ $(WORKSHOP)
+
+build/planner/planner-checked: $(PLANNER) $(HEADERS) build/native/libbridgeyarn.a
 	mkdir -p build/planner
-	cc -std=c99 -g -O1 -Wall -Wextra -Werror -pedantic -fsanitize=address,undefined -fno-sanitize-recover=all -Iinclude $< build/native/libbridgeyarn.a -o $@
+	$(CHECKED) $(PLANNER) build/native/libbridgeyarn.a -o $@
+
+build/workshop/workshop-checked: $(WORKSHOP) $(HEADERS) build/native/libbridgeyarn.a
+	mkdir -p build/workshop
+	$(CHECKED) $(WORKSHOP) build/native/libbridgeyarn.a -o $@
 
 build/bench/release/bench: build/native/libbridgeyarn.a $(shell find bench oracle -name '*.rs' -o -name '*.toml') | setup
 	cd bench && BRIDGEYARN_LIB=$(CURDIR)/build/native CARGO_TARGET_DIR=$(CURDIR)/build/bench cargo build --release --offline --quiet

@@ -2,7 +2,7 @@
  *
  *     grid SURFACE SIZE NUMBERING [nan] > RECORD
  *
- * SURFACE is sphere, gyroid or boxes; SIZE is 2 to 128; NUMBERING is 0 (crate) or 1 (joined), and any other word is written as it is. With
+ * SURFACE is sphere, gyroid, boxes or cushion; SIZE is 2 to 128; NUMBERING is 0 (crate) or 1 (joined), and any other word is written as it is. With
  * nan, the sample in the middle is not a number. Exit status: 0 done, 2 wrong usage, 3 the record could not be written. */
 #include <stdint.h>
 #include <stdio.h>
@@ -51,18 +51,29 @@ static float boxes(float x, float y, float z)
     return a < b ? a : b;
 }
 
+/* A block with a bowl for the back of a head, and a groove for the neck that runs out at one side. */
+static float cushion(float x, float y, float z)
+{
+    float u = x - 0.55f, v = y - 0.5f, w = z - 0.85f, g = z - 0.66f;
+    float block = larger(larger(absolute(x - 0.5f) - 0.42f, absolute(y - 0.5f) - 0.36f), absolute(z - 0.4f) - 0.25f);
+    float head = 0.16f - (u * u + 1.3f * v * v + w * w), neck = 0.035f - (v * v + g * g);
+    return larger(block, x < 0.55f ? larger(head, neck) : head);
+}
+
 static float sample(const char *surface, float x, float y, float z)
 {
     if (strcmp(surface, "sphere") == 0)
         return sphere(x, y, z);
     if (strcmp(surface, "gyroid") == 0)
         return gyroid(x, y, z);
+    if (strcmp(surface, "cushion") == 0)
+        return cushion(x, y, z);
     return boxes(x, y, z);
 }
 
 static int known(const char *surface)
 {
-    return strcmp(surface, "sphere") == 0 || strcmp(surface, "gyroid") == 0 || strcmp(surface, "boxes") == 0;
+    return strcmp(surface, "sphere") == 0 || strcmp(surface, "gyroid") == 0 || strcmp(surface, "boxes") == 0 || strcmp(surface, "cushion") == 0;
 }
 
 int main(int count, char **words)
@@ -71,7 +82,7 @@ int main(int count, char **words)
     float h, value;
     n = count >= 4 ? (uint32_t)strtoul(words[2], NULL, 10) : 0;
     if (n < 2 || n > 128 || !known(words[1]) || count > 5 || (count == 5 && strcmp(words[4], "nan") != 0)) {
-        fprintf(stderr, "usage: grid sphere|gyroid|boxes SIZE NUMBERING [nan] > RECORD\n");
+        fprintf(stderr, "usage: grid sphere|gyroid|boxes|cushion SIZE NUMBERING [nan] > RECORD\n");
         return 2;
     }
     header[0] = 1;

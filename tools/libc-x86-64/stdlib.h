@@ -3,7 +3,9 @@
 #include <stddef.h>
 void *malloc(size_t);
 void *calloc(size_t, size_t);
+void *realloc(void *, size_t);
 void free(void *);
 void exit(int);
+void qsort(void *, size_t, size_t, int (*)(const void *, const void *));
 unsigned long strtoul(const char *, char **, int);
 #endif

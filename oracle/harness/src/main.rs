@@ -9,6 +9,7 @@ mod cell;
 mod extraction;
 mod grids;
 mod listing;
+mod mesh;
 mod morton;
 mod positions;
 mod random;
@@ -22,7 +23,7 @@ pub use exposed as isosurface;
 /// A behaviour that is compared, and a function from the number of random cases to a summary or to the first difference.
 pub type Test = (&'static str, fn(u64) -> Result<String, String>);
 
-const SUBJECTS: &[&[Test]] = &[cell::TESTS, positions::TESTS, morton::TESTS, record::TESTS, extraction::TESTS, seam::TESTS];
+const SUBJECTS: &[&[Test]] = &[cell::TESTS, positions::TESTS, morton::TESTS, record::TESTS, extraction::TESTS, seam::TESTS, mesh::TESTS];
 
 fn compare(count: u64, names: &[String]) -> i32 {
     let chosen = |name: &str| names.is_empty() || names.iter().any(|n| name.starts_with(n.as_str()));
