@@ -3,14 +3,13 @@ use mathlib.Core.Path.{_≡_}
 use mathlib.Core.List.{List}
 use Prim.Native.Nat.{ℕ, _+_, _^_, _≤_, _<_}
 use lib.ListN.{length}
-use Rattle.packed_tables.specs.Packed.{rowWords, newWords}
+use Rattle.packed_tables.specs.Packed.{newWords}
 use Rattle.lent_mesh.specs.declared.Counts.{Counts}
 use Rattle.held_bits.specs.Names.{nameWords}
 use Rattle.held_bits.specs.HeldCell.{heldRoom}
 
 -- the tables that are made once and lent
-pub record Tables (rows news names : List ℕ) : Type 0 where
-  pub rows-are : rows ≡ rowWords
+pub record Tables (news names : List ℕ) : Type 0 where
   pub news-are : news ≡ newWords
   pub names-are : names ≡ nameWords
 

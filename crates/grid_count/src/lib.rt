@@ -1,6 +1,6 @@
 // The count of either numbering. Layers, rows and words are taken as the walk takes them; cells whose
-// corners are all alike add nothing and are passed over. A cell of the joined numbering adds what its two
-// packed words say; one of the crate numbering is counted by the edges that are held in working memory.
+// corners are all alike add nothing and are passed over. A cell of the joined numbering adds what its packed
+// word says; one of the crate numbering is counted by the edges that are held in working memory.
 ghost use mathlib.Core.Path.{_≡_};
 ghost use mathlib.Core.Bool.{cond};
 ghost use Prim.Native.Nat.{_+_, _-_, _*_, _≤_, _<_};
@@ -23,7 +23,6 @@ use sign_words::Quad;
 // the first, and `row` the cache row that is read.
 fn count_cell(
     numbering: u32,
-    rows: &[u64; 256],
     news: &[u64; 2048],
     names: &[u32; 256],
     n: usize,
@@ -36,7 +35,7 @@ fn count_cell(
     work: &mut [u32],
     counts: Counts,
 ) -> Counts
-    requires { ⌜ Tables (now rows) (now news) (now names) ⌝ }
+    requires { ⌜ Tables (now news) (now names) ⌝ }
     requires { ⌜ RowIn n y × (x + 1 < n) × (case < 256) ⌝ }
     requires { ⌜ (class ≡ classOf 1 y z) × (class ≤ 6) × (row ≡ rowParity n z y) ⌝ }
     requires { ⌜ Countable n (now work) 15 counts ⌝ }
@@ -47,7 +46,7 @@ fn count_cell(
         held_bits::held_cell(names, n, x, y, case, z % 2, row, work, counts)
     } else {
         let here = joined_edges::class_at(class, x);
-        joined_edges::joined_counts(rows, news, case, here, counts)
+        joined_edges::joined_counts(news, case, here, counts)
     }
 }
 
@@ -56,7 +55,6 @@ fn count_cell(
 // wait for the other.
 fn count_word(
     numbering: u32,
-    rows: &[u64; 256],
     news: &[u64; 2048],
     names: &[u32; 256],
     samples: &[f32],
@@ -71,7 +69,7 @@ fn count_word(
     work: &mut [u32],
     counts: Counts,
 ) -> Counts
-    requires { ⌜ Tables (now rows) (now news) (now names) ⌝ }
+    requires { ⌜ Tables (now news) (now names) ⌝ }
     requires { ⌜ RowIn n y × QuadOf n (now samples) y z k quad × (mask ≡ activeWord n (now samples) y z k) × (32 * k < n - 1) ⌝ }
     requires { ⌜ (class ≡ classOf 1 y z) × (class ≤ 6) × (row ≡ rowParity n z y) ⌝ }
     requires { ⌜ Countable n (now work) 480 counts ⌝ }
@@ -87,7 +85,6 @@ fn count_word(
         let case = sign_words::case_of(quad, i);
         let next = count_cell(
             numbering,
-            rows,
             news,
             names,
             n,
@@ -110,7 +107,6 @@ fn count_word(
 // Row y of layer z, between the sign words of the sample layers z and z + 1.
 fn count_row(
     numbering: u32,
-    rows: &[u64; 256],
     news: &[u64; 2048],
     names: &[u32; 256],
     low: &[u32; 513],
@@ -123,7 +119,7 @@ fn count_row(
     work: &mut [u32],
     counts: Counts,
 ) -> Counts
-    requires { ⌜ Tables (now rows) (now news) (now names) ⌝ }
+    requires { ⌜ Tables (now news) (now names) ⌝ }
     requires { ⌜ RowIn n y × (row ≡ rowParity n z y) ⌝ }
     requires { ⌜ LayerWords n (now samples) z (now low) × LayerWords n (now samples) (z + 1) (now high) ⌝ }
     requires { ⌜ Countable n (now work) 1920 counts ⌝ }
@@ -141,7 +137,6 @@ fn count_row(
         let mask = sign_words::active(quad, n, k);
         reached = count_word(
             numbering,
-            rows,
             news,
             names,
             samples,
@@ -164,7 +159,6 @@ fn count_row(
 // The rows of layer z; `parity` says which of the two cache rows is read in its first row.
 fn count_layer(
     numbering: u32,
-    rows: &[u64; 256],
     news: &[u64; 2048],
     names: &[u32; 256],
     low: &[u32; 513],
@@ -176,7 +170,7 @@ fn count_layer(
     work: &mut [u32],
     counts: Counts,
 ) -> Counts
-    requires { ⌜ Tables (now rows) (now news) (now names) ⌝ }
+    requires { ⌜ Tables (now news) (now names) ⌝ }
     requires { ⌜ (2 ≤ n) × (n ≤ 128) × (parity ≡ rowParity n z 0) ⌝ }
     requires { ⌜ LayerWords n (now samples) z (now low) × LayerWords n (now samples) (z + 1) (now high) ⌝ }
     requires { ⌜ Countable n (now work) 243840 counts ⌝ }
@@ -189,7 +183,6 @@ fn count_layer(
     while y < n - 1 {
         reached = count_row(
             numbering,
-            rows,
             news,
             names,
             low,
@@ -224,7 +217,6 @@ pub fn count_grid(numbering: u32, samples: &[f32], n: usize, work: &mut [u32]) -
     ensures { λ r. ⌜ held (now (work .exit)) r ≡ countSteps numbering n (insideOf n (now (samples .entry))) n (record { work = now (work .entry); made = 0; written = 0 }) ⌝ }
     ensures { λ r. ⌜ (r .written ≤ 31211520) × (r .made ≤ r .written) ⌝ }
 {
-    let rows = packed_tables::row_words();
     let news = packed_tables::new_words();
     let names = held_bits::name_words();
     let mut low = [0u32; 513];
@@ -240,7 +232,6 @@ pub fn count_grid(numbering: u32, samples: &[f32], n: usize, work: &mut [u32]) -
         sign_words::fill_layer(samples, n, z + 1, &mut high);
         reached = count_layer(
             numbering,
-            &rows,
             &news,
             &names,
             &low,

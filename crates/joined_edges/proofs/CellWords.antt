@@ -1,4 +1,4 @@
--- What the two words of a cell hold: the edges of its row and its new edges, each with their number.
+-- What the two words of a cell hold: the edges of its row and its new edges, each with their number; the second has both numbers.
 use mathlib.Core.Path.{_≡_, refl, sym, ap, ap₂, _∙_, subst}
 use mathlib.Core.Bool.{Bool, true, false}
 use mathlib.Core.List.{List}
@@ -15,7 +15,7 @@ use Rattle.walk_models.specs.Lent.{Lent}
 use Rattle.walk_models.specs.Owned.{cellNew, makeEdge, nameEdge, ownedCell, Count, countCell}
 use Rattle.packed_tables.specs.Unpacked.{Edges}
 use Rattle.packed_tables.specs.Packed.{ownedIn, rowWords, newWords}
-use Rattle.packed_tables.proofs.Words.{inThrees, oneByOne, row-word, new-word}
+use Rattle.packed_tables.proofs.Words.{inThrees, oneByOne, indicesOf, row-word, new-word, new-word-row}
 use Rattle.joined_edges.specs.OneCell.{each, classOf}
 use Rattle.joined_edges.proofs.PackedSteps.{unpacked-length}
 use Rattle.joined_edges.proofs.NewEdges.{edges-of, newEdges-edges, newEdges-length-le}
@@ -29,13 +29,14 @@ pub record Words (class s row fresh : ℕ) : Type 0 where
   pub new-known : Edges (oneByOne fresh)
   pub row-most : 3 * (row / 2 ^ 60) ≤ 15
   pub new-most : fresh / 2 ^ 60 ≤ 3 * (row / 2 ^ 60)
+  pub same-indices : indicesOf fresh ≡ 3 * (row / 2 ^ 60)
 
 le-along : {a b c d : ℕ} → a ≡ c → b ≡ d → a ≤ b → c ≤ d
 le-along p q h = omega arith
 
 words-hold : (class s row fresh : ℕ) → s < 256 → inThrees row ≡ rowEdges s → oneByOne fresh ≡ newEdges (ownedIn class) (rowEdges s)
-    → Words class s row fresh
-words-hold class s row fresh hs er en =
+    → indicesOf fresh ≡ length (rowEdges s) → Words class s row fresh
+words-hold class s row fresh hs er en ei =
     let rule = row-rule s hs in
     let all : Edges (rowEdges s) = edges-of (rowEdges s) (rule .edge) in
     let row-count : length (rowEdges s) ≡ 3 * (row / 2 ^ 60) = sym (ap length er) ∙ unpacked-length (3 * (row / 2 ^ 60)) (row % 2 ^ 60) in
@@ -48,6 +49,7 @@ words-hold class s row fresh hs er en =
       new-known = subst Edges (sym en) (newEdges-edges (ownedIn class) (rowEdges s) all);
       row-most = subst (λ (k : ℕ). k ≤ 15) row-count (rule .most);
       new-most = le-along new-count row-count (newEdges-length-le (ownedIn class) (rowEdges s));
+      same-indices = ei ∙ row-count;
     }
 
 -- how far the counts go with them, by what each pass says of them
@@ -63,9 +65,11 @@ counts-grown class s row fresh made written made-all written-then made-now writt
 pub words : (class s fresh : ℕ) (rows news : List ℕ) → class < 8 → s < 256 → rows ≡ rowWords → news ≡ newWords
     → fresh ≡ getD news (256 * class + s) 0 → Words class s (getD rows s 0) fresh
 words class s fresh rows news hc hs er en ef =
+    let known : fresh ≡ getD newWords (256 * class + s) 0 = ef ∙ ap (λ (l : List ℕ). getD l (256 * class + s) 0) en in
     words-hold class s (getD rows s 0) fresh hs
     (ap (λ (l : List ℕ). inThrees (getD l s 0)) er ∙ row-word s hs)
-    (ap oneByOne (ef ∙ ap (λ (l : List ℕ). getD l (256 * class + s) 0) en) ∙ new-word class s hc hs)
+    (ap oneByOne known ∙ new-word class s hc hs)
+    (ap indicesOf known ∙ new-word-row class s hc hs)
 
 -- ---- of a cell
 

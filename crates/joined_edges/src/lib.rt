@@ -188,24 +188,18 @@ pub fn joined_cell(
     )
 }
 
-// What one cell adds to the counts, from the two words alone.
-pub fn joined_counts(
-    rows: &[u64; 256],
-    news: &[u64; 2048],
-    case: usize,
-    class: usize,
-    counts: Counts,
-) -> Counts
-    requires { ⌜ (now rows ≡ rowWords) × (now news ≡ newWords) × (case < 256) × (class < 8) ⌝ }
+// What one cell adds to the counts, from its word in `news` alone: the number of its row's triangles
+// stands there too, in the four bits below the highest.
+pub fn joined_counts(news: &[u64; 2048], case: usize, class: usize, counts: Counts) -> Counts
+    requires { ⌜ (now news ≡ newWords) × (case < 256) × (class < 8) ⌝ }
     requires { ⌜ (counts .made ≤ counts .written) × (counts .written + 15 < 2 ^ 32) ⌝ }
     ensures { λ r. ⌜ ((g : Inside) (x y z : ℕ) → case ≡ signs g x y z → class ≡ classOf x y z → countOf r ≡ countCell g z y x (countOf counts)) ⌝ }
     ensures { λ r. ⌜ (r .made ≤ r .written) × (r .written ≤ counts .written + 15) ⌝ }
 {
     let fresh = new_word(news, case, class);
-    let row = rows[case];
     Counts {
         made: counts.made + ((fresh >> 60) as u32),
-        written: counts.written + 3 * ((row >> 60) as u32),
+        written: counts.written + 3 * (((fresh >> 56) % 16) as u32),
     }
 }
 

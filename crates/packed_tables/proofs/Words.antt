@@ -56,8 +56,18 @@ row-word s h = alike-eq _ _ (every-at rowRight 0 rowWords rows-right s (subst (�
 
 -- ---- new edges
 
+-- three for each triangle of the row
+abbrev pub indicesOf : ℕ → ℕ
+indicesOf word = 3 * (word / 2 ^ 56 % 16)
+
+abbrev edgesRight : ℕ → ℕ → List ℤ → Bool
+edgesRight class word r = alike (oneByOne word) (kept (ownedIn class) (firstNamed [] (named r)))
+
+abbrev indicesRight : ℕ → List ℤ → Bool
+indicesRight word r = eqb (indicesOf word) (length (named r))
+
 abbrev newRight : ℕ → ℕ → List ℤ → Bool
-newRight class word r = alike (oneByOne word) (kept (ownedIn class) (firstNamed [] (named r)))
+newRight class word r = edgesRight class word r && indicesRight word r
 
 -- word by word and row by row
 abbrev classRight : ℕ → List ℕ → List (List ℤ) → Bool
@@ -92,9 +102,27 @@ class-length class h = wide-at 256 newWordsByClass classes-wide class (subst (λ
     wide-at n (l ∷ ls) t zero h = eqb→eq (length l) n (both-left (eqb (length l) n) (wide n ls) t)
     wide-at n (l ∷ ls) t (suc k) h = wide-at n ls (both-right (eqb (length l) n) (wide n ls) t) k (le-of-suc-le-suc h)
 
-pub new-word : (class s : ℕ) → class < 8 → s < 256 → oneByOne (getD newWords (256 * class + s) 0) ≡ newEdges (ownedIn class) (rowEdges s)
-unfolding newWords rowEdges
-new-word class s hc hs =
-    ap oneByOne (flat-at 256 0 newWordsByClass classes-wide class s (subst (λ (n : ℕ). class < n) (sym classes-length) hc) hs)
-    ∙ alike-eq _ _ (class-at class (getD newWordsByClass class []) triangleConnection (every-at (λ class words. classRight class words triangleConnection) [] newWordsByClass classes-right class (subst (λ (n : ℕ). class < n) (sym classes-length) hc)) s (subst (λ (n : ℕ). s < n) (sym (class-length class hc)) hs))
-    ∙ sym (newEdges-firstNamed (ownedIn class) (named (row s)))
+module _ (class s : ℕ) (hc : class < 8) (hs : s < 256) where
+  abbrev word : ℕ
+  word = getD (getD newWordsByClass class []) s 0
+
+  word-at : getD newWords (256 * class + s) 0 ≡ word
+  unfolding newWords
+  word-at = flat-at 256 0 newWordsByClass classes-wide class s (subst (λ (n : ℕ). class < n) (sym classes-length) hc) hs
+
+  word-right : T (newRight class word (row s))
+  word-right =
+      class-at class (getD newWordsByClass class []) triangleConnection
+      (every-at (λ class words. classRight class words triangleConnection) [] newWordsByClass classes-right class (subst (λ (n : ℕ). class < n) (sym classes-length) hc))
+      s (subst (λ (n : ℕ). s < n) (sym (class-length class hc)) hs)
+
+  pub new-word : oneByOne (getD newWords (256 * class + s) 0) ≡ newEdges (ownedIn class) (rowEdges s)
+  unfolding rowEdges
+  new-word =
+      ap oneByOne word-at
+      ∙ alike-eq _ _ (both-left (edgesRight class word (row s)) (indicesRight word (row s)) word-right)
+      ∙ sym (newEdges-firstNamed (ownedIn class) (named (row s)))
+
+  pub new-word-row : indicesOf (getD newWords (256 * class + s) 0) ≡ length (rowEdges s)
+  unfolding rowEdges
+  new-word-row = ap indicesOf word-at ∙ eqb→eq _ _ (both-right (edgesRight class word (row s)) (indicesRight word (row s)) word-right)

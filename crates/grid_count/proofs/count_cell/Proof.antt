@@ -31,7 +31,7 @@ joined-counts-requires c κs =
     let pre = start .pre in
     let room = pre .1 .1 .1 in
     let class = c .class-at .ensures (start .args .y) (start .args .z) (pre .1 .1 .0 .0) in
-    ((pre .0 .rows-are, pre .0 .news-are, pre .1 .0 .2, class-lt (start .args .x) (start .args .y) (start .args .z) _ class), (room .ordered, room .fits))
+    ((pre .0 .news-are, pre .1 .0 .2, class-lt (start .args .x) (start .args .y) (start .args .z) _ class), (room .ordered, room .fits))
 
 same-length : tie.Need-same-length
 same-length c = search needs

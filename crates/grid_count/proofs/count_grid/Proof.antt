@@ -20,16 +20,13 @@ use Rattle.grid_count.proofs.count_grid.Statement.{statement}
 use Rattle.grid_count.proofs.count_grid.Tie as tie
 
 abbrev Inv-loop : tie.InvT-loop
-Inv-loop numbering samples n work₀ rows news names low₀ high₀ reached₀ row₀ z₀ work low high reached row z =
+Inv-loop numbering samples n work₀ news names low₀ high₀ reached₀ row₀ z₀ work low high reached row z =
     Reached countIn (λ j t. endStep numbering n (insideOf n samples) j (cellsOfLayer (countStep numbering n (insideOf n samples)) n j (n - 1) t)) (held work₀ reached₀) (held work reached) z (243840 * z)
     × (z ≤ n) × (row ≡ rowParity n z 0) × LayerWords n samples z low × (length work ≡ length work₀)
 
 abbrev μ-loop : tie.MeasureT-loop
-μ-loop numbering samples n work₀ rows news names low₀ high₀ reached₀ row₀ z₀ work low high reached row z =
+μ-loop numbering samples n work₀ news names low₀ high₀ reached₀ row₀ z₀ work low high reached row z =
     n - z
-
-row-words-requires : tie.Need-row-words-requires Inv-loop μ-loop
-row-words-requires c κs = search needs
 
 new-words-requires : tie.Need-new-words-requires Inv-loop μ-loop
 new-words-requires c κs = search needs
@@ -39,32 +36,32 @@ name-words-requires c κs = search needs
 
 fill-layer-requires : tie.Need-fill-layer-requires Inv-loop μ-loop
 fill-layer-requires c κs =
-    let pre = c .before .before .before .before .before .before .pre in
+    let pre = c .before .before .before .before .before .pre in
     (pre .0, pre .1, planes-le _ 1 _ (omega arith) (pre .2))
 
 loop-holds : tie.Need-loop-holds Inv-loop μ-loop
 loop-holds c = (reached-none _ _ _ 243840 (omega arith), omega arith, ap (λ (k : ℕ). (k + 0) % 2) (sym (zero-mul _)), c .fill-layer .ensures, refl)
 
 add-fill-layer : tie.Need-add-fill-layer Inv-loop μ-loop
-add-fill-layer c = let most = c .before .before .before .before .before .before .before .before .before .pre .1 in omega arith
+add-fill-layer c = let most = c .before .before .before .before .before .before .before .before .pre .1 in omega arith
 
 fill-layer-requires-2 : tie.Need-fill-layer-requires-2 Inv-loop μ-loop
 fill-layer-requires-2 c κs =
-    let pre = c .before .before .before .before .before .before .before .before .before .before .pre in
+    let pre = c .before .before .before .before .before .before .before .before .before .pre in
     (pre .0, pre .1, planes-le _ _ _ (omega arith) (pre .2))
 
 count-layer-requires : tie.Need-count-layer-requires Inv-loop μ-loop
 count-layer-requires c κs =
-    let filled = c .before .before .before .before .before .before in
+    let filled = c .before .before .before .before .before in
     let at-loop = filled .before .before .before in
     let tables = at-loop .before .before .before in
-    let pre = tables .before .before .before .before .before .pre in
+    let pre = tables .before .before .before .before .pre in
     let most = pre .1 in
     let room = pre .3 in
     let at = at-loop .loop .inv in
     let grown = at .0 .grown in
     let same = at .4 in (
-      record { rows-are = tables .before .before .row-words .ensures; news-are = tables .before .new-words .ensures; names-are = tables .name-words .ensures },
+      record { news-are = tables .before .new-words .ensures; names-are = tables .name-words .ensures },
       (
         (pre .0, most, at .2),
         ((at .3, filled .fill-layer2 .ensures), record { enough = omega arith; ordered = at .0 .ordered; fits = omega arith }),
@@ -72,25 +69,25 @@ count-layer-requires c κs =
     )
 
 sub-row : tie.Need-sub-row Inv-loop μ-loop
-sub-row c = let least = c .before .before .before .before .before .before .before .before .before .before .before .before .before .before .before .before .before .before .before .before .pre .0 in omega arith
+sub-row c = let least = c .before .before .before .before .before .before .before .before .before .before .before .before .before .before .before .before .before .before .pre .0 in omega arith
 
 add-row : tie.Need-add-row Inv-loop μ-loop
 add-row c =
-    let at-loop = c .before .before .before .before .before .before .before .before .before .before .before .before in
-    let most = at-loop .before .before .before .before .before .before .before .before .pre .1 in
+    let at-loop = c .before .before .before .before .before .before .before .before .before .before .before in
+    let most = at-loop .before .before .before .before .before .before .before .pre .1 in
     let row = at-loop .loop .inv .2 in
     omega arith
 
 end-layer-requires : tie.Need-end-layer-requires Inv-loop μ-loop
 end-layer-requires c κs =
-    let at-loop = c .before .before .before .before .before .before .before .before .before .before .before .before .before in
-    let pre = at-loop .before .before .before .before .before .before .before .before .pre in
+    let at-loop = c .before .before .before .before .before .before .before .before .before .before .before .before in
+    let pre = at-loop .before .before .before .before .before .before .before .pre in
     let room = pre .3 in
     let same = at-loop .loop .inv .4 in
     (pre .1, parity-le _, omega arith)
 
 add-z : tie.Need-add-z Inv-loop μ-loop
-add-z c = let most = c .before .before .before .before .before .before .before .before .before .before .before .before .before .before .before .before .before .before .before .before .before .before .before .before .pre .1 in omega arith
+add-z c = let most = c .before .before .before .before .before .before .before .before .before .before .before .before .before .before .before .before .before .before .before .before .before .before .pre .1 in omega arith
 
 loop-less : tie.Need-loop-less Inv-loop μ-loop
 loop-less c = omega arith
@@ -99,7 +96,7 @@ loop-again : tie.Need-loop-again Inv-loop μ-loop
 loop-again c =
     let ended = c .before .before in
     let called = ended .before .before .before .before in
-    let filled = called .before .before .before .before .before .before .before in
+    let filled = called .before .before .before .before .before .before in
     let at = filled .before .before .before .loop .inv in
     let parity = parity-layer _ _ _ (at .2) in (
       reached-next _ _ _ 243840 _ _ _ (at .0) (layer-done _ _ _ _ _ _ _ _ _ parity (called .count-layer .ensures .0) (ended .end-layer .ensures)) (called .count-layer .ensures .1 .0) (called .count-layer .ensures .1 .1),
@@ -115,7 +112,7 @@ same-length c = search needs
 returns : tie.Need-returns Inv-loop μ-loop
 unfolding countSteps
 returns c =
-    let start = c .before .before .before .before .before .before .before .before .before in
+    let start = c .before .before .before .before .before .before .before .before in
     let most = start .pre .1 in
     let at = c .before .loop .inv .0 in
     let grown = at .grown in
@@ -128,7 +125,6 @@ count-grid-spec =
     (tie.spec
     Inv-loop
     μ-loop
-    row-words-requires
     new-words-requires
     name-words-requires
     fill-layer-requires

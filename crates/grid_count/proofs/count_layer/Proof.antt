@@ -16,12 +16,12 @@ use Rattle.grid_count.proofs.count_layer.Statement.{statement}
 use Rattle.grid_count.proofs.count_layer.Tie as tie
 
 abbrev Inv-loop : tie.InvT-loop
-Inv-loop numbering rows news names low high samples n z parity work₀ reached₀ row₀ y₀ work reached row y =
+Inv-loop numbering news names low high samples n z parity work₀ reached₀ row₀ y₀ work reached row y =
     Reached countIn (λ j t. cellsOfRow (countStep numbering n (insideOf n samples)) n z j (n - 1) t) (held work₀ reached₀) (held work reached) y (1920 * y)
     × (y ≤ n - 1) × (row ≡ rowParity n z y) × (length work ≡ length work₀)
 
 abbrev μ-loop : tie.MeasureT-loop
-μ-loop numbering rows news names low high samples n z parity work₀ reached₀ row₀ y₀ work reached row y =
+μ-loop numbering news names low high samples n z parity work₀ reached₀ row₀ y₀ work reached row y =
     n - 1 - y
 
 loop-holds : tie.Need-loop-holds Inv-loop μ-loop

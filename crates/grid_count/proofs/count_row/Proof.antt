@@ -14,12 +14,12 @@ use Rattle.grid_count.proofs.count_row.Statement.{statement}
 use Rattle.grid_count.proofs.count_row.Tie as tie
 
 abbrev Inv-loop : tie.InvT-loop
-Inv-loop numbering rows news names low high samples n y z row work₀ class reached₀ k₀ work reached k =
+Inv-loop numbering news names low high samples n y z row work₀ class reached₀ k₀ work reached k =
     Reached countIn (λ x t. countStep numbering n (insideOf n samples) z y x t) (held work₀ reached₀) (held work reached) (min (32 * k) (n - 1)) (480 * k)
     × (k ≤ 4) × (length work ≡ length work₀)
 
 abbrev μ-loop : tie.MeasureT-loop
-μ-loop numbering rows news names low high samples n y z row work₀ class reached₀ k₀ work reached k =
+μ-loop numbering news names low high samples n y z row work₀ class reached₀ k₀ work reached k =
     n - 1 - 32 * k
 
 outside-requires : tie.Need-outside-requires Inv-loop μ-loop

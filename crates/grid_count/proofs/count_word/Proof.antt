@@ -13,12 +13,12 @@ use Rattle.grid_count.proofs.count_word.Statement.{statement}
 use Rattle.grid_count.proofs.count_word.Tie as tie
 
 abbrev Inv-loop : tie.InvT-loop
-Inv-loop numbering rows news names samples n y z k quad mask class row work₀ made₀ written₀ rest₀ work made written rest =
+Inv-loop numbering news names samples n y z k quad mask class row work₀ made₀ written₀ rest₀ work made written rest =
     Counted numbering n samples z y k (record { work = work₀; made = made₀; written = written₀ }) (record { work = work; made = made; written = written }) mask rest
     × (length work ≡ length work₀)
 
 abbrev μ-loop : tie.MeasureT-loop
-μ-loop numbering rows news names samples n y z k quad mask class row work₀ made₀ written₀ rest₀ work made written rest =
+μ-loop numbering news names samples n y z k quad mask class row work₀ made₀ written₀ rest₀ work made written rest =
     rest
 
 -- the lowest bit left is a cell of the word, and of a row of at most 127 cells
