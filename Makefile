@@ -1,4 +1,4 @@
-# make demo          builds the library and the planner, and shows a result
+# make demo          builds the library, the planner and the workshop's program, and shows a result
 # make test          compares with the Rust, tests the programs and the C boundary, and proves everything; its last line is the prover's count
 # make oracle N=..   compares that many small grids, and one in 5,000 as many large ones, with the Rust (SEED=.. for other grids)
 # make bench         times the library beside the Rust, counts its instructions and writes docs/BENCH.md; make bench-peers times VTK and scikit-image for it
