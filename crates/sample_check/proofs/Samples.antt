@@ -1,23 +1,20 @@
 -- The flag pass and the search for the lowest bad sample, one sample more, and what the two answers say of each other.
 use mathlib.Core.Path.{_≡_, refl, sym, ap, ap₂, _∙_}
-use mathlib.Core.Bool.{Bool, true, false, cond, not, _&&_, _||_, true≢false, false≢true}
+use mathlib.Core.Bool.{Bool, true, false, cond, not, _&&_, _||_}
 use mathlib.Core.Logic.{⊎-elim}
 use mathlib.Core.List.{List, [], _∷_, _++_}
 use Prim.Native.Nat.{ℕ, zero, suc, _+_, _≤_, _<_}
 use native.Mathlib.Nat.{add-zero, not-suc-le-zero, le-of-suc-le-suc}
 use native.Mathlib.Numerals.{add-one}
 use native.Mathlib.Omega.{arith}
-use lib.Dec.{eqb, ltb}
+use lib.Dec.{ltb}
 use lib.ListN.{length, getD, take, drop, drop-of-length-le}
 use lib.Seq.{take-suc, take-all, drop-cons}
-use lib.Bits.{bitOr}
 use borrow.Author.Tests.{ltb-false, not-false, lt-ltb, le-ltb}
 use lib.Ieee.{Float, nan, binary32, le, neg, ofBits}
-use mir.Val.{boolByte}
 use Rattle.marching_cubes_tables.proofs.Tests.{lt-or-ge}
 use Rattle.marching_cubes_impl.specs.Sample.{good}
 use Rattle.marching_cubes_impl.proofs.Limit.{limit, good-comparisons}
-use Rattle.walk.specs.Walk.{bit}
 use Rattle.walk.proofs.Bools.{or-none-left, or-none-right}
 use Rattle.sample_check.specs.Samples.{anyBad, lowestBad}
 
@@ -48,28 +45,16 @@ inRange-good v = both (le v limit) (le (neg limit) v) ∙ good-comparisons v
     both true b = refl
     both false b = refl
 
-flag : (p a : Bool) → bitOr (bit p) (boolByte (not a)) ≡ bit (p || not a)
-flag true true = refl
-flag true false = refl
-flag false true = refl
-flag false false = refl
-
-pub flag-suc : (samples : List Float) (i bad : ℕ) → i < length samples → bad ≡ bit (anyBad (take i samples))
-    → bitOr bad (boolByte (not (inRange (getD samples i nan)))) ≡ bit (anyBad (take (i + 1) samples))
+pub flag-suc : (samples : List Float) (i : ℕ) (bad : Bool) → i < length samples → bad ≡ anyBad (take i samples)
+    → (bad || not (inRange (getD samples i nan))) ≡ anyBad (take (i + 1) samples)
 flag-suc samples i bad h e =
     let v = getD samples i nan in
-    ap₂ (λ (x : ℕ) (b : Bool). bitOr x (boolByte (not b))) e (inRange-good v)
-    ∙ flag (anyBad (take i samples)) (good v)
-    ∙ ap bit (sym (anyBad-snoc (take i samples) v))
-    ∙ ap (λ (l : List Float). bit (anyBad l)) (sym (take-suc samples i nan h) ∙ ap (λ (k : ℕ). take k samples) (sym (add-one i)))
+    ap₂ (λ (x b : Bool). x || not b) e (inRange-good v)
+    ∙ sym (anyBad-snoc (take i samples) v)
+    ∙ ap anyBad (sym (take-suc samples i nan h) ∙ ap (λ (k : ℕ). take k samples) (sym (add-one i)))
 
-pub flag-end : (samples : List Float) (i bad : ℕ) → length samples ≤ i → bad ≡ bit (anyBad (take i samples)) → not (eqb bad 0) ≡ anyBad samples
-flag-end samples i bad h e =
-    ap (λ (x : ℕ). not (eqb x 0)) (e ∙ ap (λ (l : List Float). bit (anyBad l)) (take-all i samples h)) ∙ raised (anyBad samples)
-  where
-    raised : (b : Bool) → not (eqb (bit b) 0) ≡ b
-    raised true = refl
-    raised false = refl
+pub flag-end : (samples : List Float) (i : ℕ) (bad : Bool) → length samples ≤ i → bad ≡ anyBad (take i samples) → bad ≡ anyBad samples
+flag-end samples i bad h e = e ∙ ap anyBad (take-all i samples h)
 
 -- ---- the search
 

@@ -12,15 +12,15 @@ const LIMIT: f32 = 85070591730234615865843651857942052864.0;
 pub fn any_bad(samples: &[f32]) -> bool
     ensures { λ r. ⌜ r ≡ anyBad (now (samples .entry)) ⌝ }
 {
-    let mut bad: u32 = 0;
+    let mut bad = false;
     let mut i: usize = 0;
     while i < samples.len() {
         let v = samples[i];
         let good = (v <= LIMIT) & (-LIMIT <= v);
-        bad = bad | ((!good) as u32);
+        bad = bad | !good;
         i += 1;
     }
-    bad != 0
+    bad
 }
 
 // The place of the first sample that is refused, or the number of samples.

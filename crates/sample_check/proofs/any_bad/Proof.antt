@@ -3,14 +3,13 @@ use mathlib.Core.Path.{_≡_}
 use Prim.Native.Nat.{ℕ, _-_, _≤_}
 use lib.ListN.{length, take}
 use borrow.Author.Needs.{needs}
-use Rattle.walk.specs.Walk.{bit}
 use Rattle.sample_check.specs.Samples.{anyBad}
 use Rattle.sample_check.proofs.Samples.{flag-suc, flag-end}
 use Rattle.sample_check.proofs.any_bad.Statement.{statement}
 use Rattle.sample_check.proofs.any_bad.Tie as tie
 
 abbrev Inv-loop : tie.InvT-loop
-Inv-loop samples bad₀ i₀ bad i = (i ≤ length samples) × (bad ≡ bit (anyBad (take i samples)))
+Inv-loop samples bad₀ i₀ bad i = (i ≤ length samples) × (bad ≡ anyBad (take i samples))
 
 abbrev μ-loop : tie.MeasureT-loop
 μ-loop samples bad₀ i₀ bad i = length samples - i
@@ -24,9 +23,6 @@ mul-v c = search needs
 
 shared-slice-read-v : tie.Need-shared-slice-read-v Inv-loop μ-loop
 shared-slice-read-v c = search needs
-
-cast-bad : tie.Need-cast-bad Inv-loop μ-loop
-cast-bad c = search needs
 
 add-i : tie.Need-add-i Inv-loop μ-loop
 add-i c = search needs
@@ -53,7 +49,6 @@ any-bad-spec =
     loop-holds
     mul-v
     shared-slice-read-v
-    cast-bad
     add-i
     loop-less
     loop-again
