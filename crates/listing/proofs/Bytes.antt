@@ -14,9 +14,9 @@ use Rattle.sample_record.specs.declared.Record.the-variants.{Holds, Malformed, 
 use Rattle.sample_record.specs.Record.{causeOf, placeOf, sizeOf, numberingOf, recordOf}
 use Rattle.sample_record.specs.Samples.{samplesOf, copied}
 use Rattle.sample_record.proofs.Accepted.{Accepted, recordOf-accepted}
-use Rattle.listing_text.specs.Put.{Put}
+use Rattle.listing_words.specs.Put.{Put}
 use Rattle.listing_text.specs.Lines.{refusedLine}
-use Rattle.listing_text.proofs.Putting.{put-front}
+use Rattle.listing_words.proofs.Putting.{put-front}
 use Rattle.listing.specs.Listing.{gridText, listingOf}
 
 holds-of : (answer : Record) → causeOf answer ≡ 0 → answer ≡ Holds (sizeOf answer) (numberingOf answer)

@@ -4,7 +4,7 @@ use mathlib.Core.Path.{_≡_, refl}
 use mathlib.Core.List.{List, [], _∷_, _++_, map}
 use Prim.Native.Nat.{ℕ}
 use lib.Ieee.{Float, binary32, ofBits, toBits}
-use Rattle.listing_text.specs.Digits.{numberWord, floatWord}
+use Rattle.listing_words.specs.Digits.{numberWord, floatWord}
 use Rattle.listing_text.specs.Lines.{refusedLine, meshText}
 
 -- the vertices of W4, by their bits

@@ -1,3 +1,2 @@
-pub mod Putting
-pub mod Digits
+mod Runs
 pub mod Cases

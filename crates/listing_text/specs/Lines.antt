@@ -5,7 +5,7 @@ use Prim.Native.Nat.{ℕ, zero, suc, _+_, _*_, _/_}
 use lib.Dec.{eqb}
 use lib.ListN.{length, getD}
 use lib.Ieee.{Float, nan}
-use Rattle.listing_text.specs.Digits.{numberWord, floatWord}
+use Rattle.listing_words.specs.Digits.{numberWord, floatWord}
 
 abbrev newline : List ℕ
 newline = 10 ∷ []

@@ -4,7 +4,7 @@ use mathlib.Core.List.{List}
 use Prim.Native.Nat.{ℕ}
 use native.Mathlib.Omega.{arith}
 use lib.ListN.{length}
-use Rattle.listing_text.specs.Put.{Put}
+use Rattle.listing_words.specs.Put.{Put}
 use Rattle.listing_text.specs.Lines.{refusedLine}
 use Rattle.listing.specs.Listing.{gridText}
 use Rattle.listing.proofs.Room.{text-le}

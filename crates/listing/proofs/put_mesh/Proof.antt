@@ -1,6 +1,6 @@
 -- `put_mesh`: the first line, the vertices and the triangles, one after another.
 use native.Mathlib.Omega.{arith}
-use Rattle.listing_text.proofs.Putting.{put-then}
+use Rattle.listing_words.proofs.Putting.{put-then}
 use borrow.Author.Needs.{needs}
 use Rattle.listing.proofs.put_mesh.Statement.{statement}
 use Rattle.listing.proofs.put_mesh.Tie as tie

@@ -1,0 +1,106 @@
+-- `put_vertices`: after i turns the lines of the first i threes are put.
+use mathlib.Core.Path.{_≡_, refl, sym, subst}
+use Prim.Native.Nat.{ℕ, _+_, _*_, _-_, _≤_}
+use native.Mathlib.Nat.{add-zero}
+use native.Mathlib.Omega.{arith}
+use borrow.Author.Needs.{needs}
+use lib.ListN.{length}
+use Rattle.listing_words.specs.Put.{Put}
+use Rattle.listing_text.specs.Lines.{linesOf, vertexLineAt}
+use Rattle.listing_text.proofs.Runs.{put-line}
+use Rattle.listing_text.proofs.put_vertices.Statement.{statement}
+use Rattle.listing_text.proofs.put_vertices.Tie as tie
+
+abbrev Inv-loop : tie.InvT-loop
+Inv-loop text₀ at vertices count next₀ i₀ text next i =
+    (i ≤ count) × (length text ≡ length text₀) × (next ≡ at + 29 * i) × Put text₀ at (linesOf i (vertexLineAt vertices)) text next
+
+abbrev μ-loop : tie.MeasureT-loop
+μ-loop text₀ at vertices count next₀ i₀ text next i = count - i
+
+loop-holds : tie.Need-loop-holds Inv-loop μ-loop
+loop-holds c = (search needs, refl, search needs, record { holds = refl; ends = sym (add-zero _) })
+
+mul-put-vertex : tie.Need-mul-put-vertex Inv-loop μ-loop
+mul-put-vertex c = search needs
+
+mul-put-vertex-2 : tie.Need-mul-put-vertex-2 Inv-loop μ-loop
+mul-put-vertex-2 c = search needs
+
+shared-slice-read-put-vertex : tie.Need-shared-slice-read-put-vertex Inv-loop μ-loop
+shared-slice-read-put-vertex c = search needs
+
+mul-put-vertex-3 : tie.Need-mul-put-vertex-3 Inv-loop μ-loop
+mul-put-vertex-3 c = search needs
+
+add-put-vertex : tie.Need-add-put-vertex Inv-loop μ-loop
+add-put-vertex c = search needs
+
+mul-put-vertex-4 : tie.Need-mul-put-vertex-4 Inv-loop μ-loop
+mul-put-vertex-4 c = search needs
+
+shared-slice-read-put-vertex-2 : tie.Need-shared-slice-read-put-vertex-2 Inv-loop μ-loop
+shared-slice-read-put-vertex-2 c = search needs
+
+mul-put-vertex-5 : tie.Need-mul-put-vertex-5 Inv-loop μ-loop
+mul-put-vertex-5 c = search needs
+
+add-put-vertex-2 : tie.Need-add-put-vertex-2 Inv-loop μ-loop
+add-put-vertex-2 c = search needs
+
+mul-put-vertex-6 : tie.Need-mul-put-vertex-6 Inv-loop μ-loop
+mul-put-vertex-6 c = search needs
+
+shared-slice-read-put-vertex-3 : tie.Need-shared-slice-read-put-vertex-3 Inv-loop μ-loop
+shared-slice-read-put-vertex-3 c = search needs
+
+put-vertex-requires : tie.Need-put-vertex-requires Inv-loop μ-loop
+put-vertex-requires c κs = search needs
+
+add-i : tie.Need-add-i Inv-loop μ-loop
+add-i c = search needs
+
+loop-less : tie.Need-loop-less Inv-loop μ-loop
+loop-less c = search needs
+
+loop-again : tie.Need-loop-again Inv-loop μ-loop
+loop-again c =
+    let put = c .before .before in
+    let turn = put .before .before .before .before .before .before in
+    let run = turn .loop .inv .3 in
+    (search needs, search needs, search needs, put-line (vertexLineAt (turn .before .before .before .args .vertices .now)) (turn .loop .i) run (put .put-vertex .ensures .0))
+
+same-length : tie.Need-same-length Inv-loop μ-loop
+same-length c = search needs
+
+returns : tie.Need-returns Inv-loop μ-loop
+returns c =
+    let turn = c .before in
+    let start = turn .before .before .before in
+    let all : turn .loop .i ≡ start .args .count = search needs in
+    ((subst (λ (k : ℕ). Put (start .args .text .now) (start .args .at) (linesOf k (vertexLineAt (start .args .vertices .now))) (turn .loop .text) (turn .loop .next)) all (turn .loop .inv .3)), omega (arith, all, turn .loop .inv .2))
+
+pub put-vertices-spec : {M : Type 1} → statement M
+put-vertices-spec =
+    tie.close
+    (tie.spec
+    Inv-loop
+    μ-loop
+    loop-holds
+    mul-put-vertex
+    mul-put-vertex-2
+    shared-slice-read-put-vertex
+    mul-put-vertex-3
+    add-put-vertex
+    mul-put-vertex-4
+    shared-slice-read-put-vertex-2
+    mul-put-vertex-5
+    add-put-vertex-2
+    mul-put-vertex-6
+    shared-slice-read-put-vertex-3
+    put-vertex-requires
+    add-i
+    loop-less
+    loop-again
+    same-length
+    returns)
