@@ -18,10 +18,10 @@ use Rattle.walk.proofs.SignByte.{signs-lt}
 use Rattle.walk_models.specs.Owned.{cellNew, countCell, cellsOfRow}
 use Rattle.lent_mesh.specs.declared.Counts.{Counts}
 use Rattle.lent_mesh.specs.Grid.{insideOf}
-use Rattle.sign_words.specs.Cells.{cellsIn, activeWord}
-use Rattle.sign_words.proofs.ActiveCells.{activeWord-lt, activeWord-idle}
-use Rattle.sign_words.proofs.LowestBits.{Onward, onward-found, onward-next, onward-last}
-use Rattle.sign_words.proofs.Turns.{times-idle}
+use Rattle.sign_cells.specs.Cells.{cellsIn, activeWord}
+use Rattle.sign_cells.proofs.ActiveCells.{activeWord-lt, activeWord-idle}
+use Rattle.sign_cells.proofs.LowestBits.{Onward, onward-found, onward-next, onward-last}
+use Rattle.sign_cells.proofs.Turns.{times-idle}
 use Rattle.joined_edges.specs.OneCell.{countOf}
 use Rattle.grid_walk.specs.Steps.{layerParity, rowParity}
 use Rattle.held_bits.specs.Names.{nameWords}

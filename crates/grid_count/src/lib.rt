@@ -10,14 +10,14 @@ ghost use Rattle.walk.specs.Walk.{Inside, signs, times};
 ghost use Rattle.walk_models.specs.Owned.{cellsOfRow, cellsOfLayer};
 ghost use Rattle.lent_mesh.specs.Grid.{insideOf};
 ghost use Rattle.sign_words.specs.Words.{LayerWords};
-ghost use Rattle.sign_words.specs.Cells.{QuadOf, cellsIn, activeWord};
+ghost use Rattle.sign_cells.specs.Cells.{QuadOf, cellsIn, activeWord};
 ghost use Rattle.joined_edges.specs.OneCell.{classOf};
 ghost use Rattle.grid_walk.specs.Steps.{rowParity};
 ghost use Rattle.held_bits.specs.HeldCell.{held, heldRoom, clearHeld};
 ghost use Rattle.grid_count.specs.Countable.{Tables, RowIn, Countable};
 ghost use Rattle.grid_count.specs.Steps.{countStep, countSteps};
 use lent_mesh::Counts;
-use sign_words::Quad;
+use sign_cells::Quad;
 
 // One cell in the numbering asked for. Its case is its sign byte, the class that of its row's cells but
 // the first, and `row` the cache row that is read.
@@ -82,7 +82,7 @@ fn count_word(
     while rest != 0 {
         let i = u32::trailing_zeros(rest);
         let x = 32 * k + (i as usize);
-        let case = sign_words::case_of(quad, i);
+        let case = sign_cells::case_of(quad, i);
         let next = count_cell(
             numbering,
             news,
@@ -126,15 +126,15 @@ fn count_row(
     ensures { λ r. ⌜ held (now (work .exit)) r ≡ cellsOfRow (countStep numbering n (insideOf n (now (samples .entry)))) n z y (n - 1) (held (now (work .entry)) counts) ⌝ }
     ensures { λ r. ⌜ (r .written ≤ counts .written + 1920) × (r .made ≤ r .written) ⌝ }
 {
-    if sign_words::outside(low, high, y) {
+    if sign_cells::outside(low, high, y) {
         return counts;
     }
     let class = joined_edges::class_of_row(y, z);
     let mut reached = counts;
     let mut k: usize = 0;
     while 32 * k < n - 1 {
-        let quad = sign_words::quad_at(low, high, y, k);
-        let mask = sign_words::active(quad, n, k);
+        let quad = sign_cells::quad_at(low, high, y, k);
+        let mask = sign_cells::active(quad, n, k);
         reached = count_word(
             numbering,
             news,

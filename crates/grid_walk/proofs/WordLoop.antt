@@ -14,10 +14,10 @@ use Rattle.walk_models.specs.Owned.{Count, cellsOfRow}
 use Rattle.walk_models.proofs.Idle.{ownedCell-idle, crateCell-idle}
 use Rattle.lent_mesh.specs.Grid.{insideOf}
 use Rattle.lent_mesh.specs.Stored.{storeAt}
-use Rattle.sign_words.specs.Cells.{cellsIn, activeWord}
-use Rattle.sign_words.proofs.ActiveCells.{activeWord-lt, activeWord-idle}
-use Rattle.sign_words.proofs.LowestBits.{Onward, onward-found, onward-next, onward-last}
-use Rattle.sign_words.proofs.Turns.{times-idle}
+use Rattle.sign_cells.specs.Cells.{cellsIn, activeWord}
+use Rattle.sign_cells.proofs.ActiveCells.{activeWord-lt, activeWord-idle}
+use Rattle.sign_cells.proofs.LowestBits.{Onward, onward-found, onward-next, onward-last}
+use Rattle.sign_cells.proofs.Turns.{times-idle}
 use Rattle.grid_walk.specs.Steps.{Hand, border, unborder, layerParity, rowParity, cellStep}
 
 -- a cell that visits nothing is passed over

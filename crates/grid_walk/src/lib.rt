@@ -14,12 +14,12 @@ ghost use Rattle.packed_tables.specs.Packed.{rowWords, newWords};
 ghost use Rattle.lent_mesh.specs.Grid.{insideOf};
 ghost use Rattle.lent_mesh.specs.Stored.{inHand, CellOf, Coordinates};
 ghost use Rattle.sign_words.specs.Words.{LayerWords};
-ghost use Rattle.sign_words.specs.Cells.{QuadOf, cellsIn, activeWord};
+ghost use Rattle.sign_cells.specs.Cells.{QuadOf, cellsIn, activeWord};
 ghost use Rattle.joined_edges.specs.OneCell.{Slots, classOf};
 ghost use Rattle.grid_walk.specs.Steps.{layerParity, rowParity, cellStep, walkSteps};
 ghost use Rattle.grid_walk.specs.Ready.{Tables, RowOf, LayerOf, Room};
 use lent_mesh::Counts;
-use sign_words::Quad;
+use sign_cells::Quad;
 
 // One cell in the numbering asked for.
 fn one_cell(
@@ -122,7 +122,7 @@ fn word_cells(
     while rest != 0 {
         let i = u32::trailing_zeros(rest);
         let x = 32 * k + (i as usize);
-        let case = sign_words::case_of(quad, i);
+        let case = sign_cells::case_of(quad, i);
         let here = joined_edges::class_at(class, x);
         reached = one_cell(
             numbering,
@@ -175,15 +175,15 @@ fn row_cells(
         ≡ cellsOfRow (cellStep numbering n (now (samples .entry))) n z y (n - 1) (inHand (now (work .entry)) (now (vertices .entry)) (now (indices .entry)) counts) ⌝ }
     ensures { λ r. ⌜ (r .written ≤ counts .written + 1920) × (r .made ≤ r .written) ⌝ }
 {
-    if sign_words::outside(low, high, y) {
+    if sign_cells::outside(low, high, y) {
         return counts;
     }
     let class = joined_edges::class_of_row(y, z);
     let mut reached = counts;
     let mut k: usize = 0;
     while 32 * k < n - 1 {
-        let quad = sign_words::quad_at(low, high, y, k);
-        let mask = sign_words::active(quad, n, k);
+        let quad = sign_cells::quad_at(low, high, y, k);
+        let mask = sign_cells::active(quad, n, k);
         reached = word_cells(
             numbering,
             rows,

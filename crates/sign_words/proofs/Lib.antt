@@ -1,11 +1,3 @@
 pub mod Words
 pub mod RowWords
 pub mod OneBit
-pub mod LongWords
-pub mod QuadBits
-pub mod RowEnd
-pub mod ActiveCells
-pub mod SetBits
-pub mod LowestBits
-pub mod OutsideRows
-pub mod Turns

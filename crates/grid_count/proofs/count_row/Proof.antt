@@ -6,7 +6,7 @@ use lib.ListN.{length}
 use borrow.Author.Needs.{needs}
 use Rattle.walk_models.specs.Owned.{cellsOfRow}
 use Rattle.lent_mesh.specs.Grid.{insideOf}
-use Rattle.sign_words.proofs.Turns.{Reached, reached-no-word, reached-word, reached-row}
+use Rattle.sign_cells.proofs.Turns.{Reached, reached-no-word, reached-word, reached-row}
 use Rattle.held_bits.specs.HeldCell.{held}
 use Rattle.grid_count.specs.Steps.{countIn, countStep}
 use Rattle.grid_count.proofs.CountWord.{row-idle}

@@ -6,8 +6,8 @@ use lib.Count.{trailingZeros}
 use lib.ListN.{length}
 use borrow.Author.Needs.{needs}
 use Rattle.lent_mesh.specs.Grid.{insideOf}
-use Rattle.sign_words.specs.Cells.{cellsIn}
-use Rattle.sign_words.proofs.LowestBits.{gone-less, onward-first}
+use Rattle.sign_cells.specs.Cells.{cellsIn}
+use Rattle.sign_cells.proofs.LowestBits.{gone-less, onward-first}
 use Rattle.grid_count.proofs.CountWord.{Counted, counted-found, counted-next, counted-last}
 use Rattle.grid_count.proofs.count_word.Statement.{statement}
 use Rattle.grid_count.proofs.count_word.Tie as tie

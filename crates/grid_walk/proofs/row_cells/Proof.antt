@@ -6,7 +6,7 @@ use lib.ListN.{length}
 use borrow.Author.Needs.{needs}
 use Rattle.walk_models.specs.Owned.{cellsOfRow}
 use Rattle.lent_mesh.specs.Stored.{inHand}
-use Rattle.sign_words.proofs.Turns.{Reached, reached-no-word, reached-word, reached-row}
+use Rattle.sign_cells.proofs.Turns.{Reached, reached-no-word, reached-word, reached-row}
 use Rattle.grid_walk.specs.Steps.{cellStep}
 use Rattle.grid_walk.proofs.WordLoop.{handCount, row-idle}
 use Rattle.grid_walk.proofs.row_cells.Statement.{statement}

@@ -9,7 +9,7 @@ use Rattle.walk_models.specs.Owned.{cellsOfLayer}
 use Rattle.lent_mesh.specs.Stored.{inHand}
 use Rattle.sign_words.specs.Words.{LayerWords}
 use Rattle.sign_words.proofs.RowWords.{planes-le}
-use Rattle.sign_words.proofs.Turns.{Reached, reached-none, reached-next, reached-all}
+use Rattle.sign_cells.proofs.Turns.{Reached, reached-none, reached-next, reached-all}
 use Rattle.grid_walk.specs.Steps.{rowParity, cellStep, layerStep, walkSteps}
 use Rattle.grid_walk.proofs.OneCell.{parity-le}
 use Rattle.grid_walk.proofs.WordLoop.{handCount}

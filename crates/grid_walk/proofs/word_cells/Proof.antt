@@ -6,8 +6,8 @@ use lib.Count.{trailingZeros}
 use lib.ListN.{length}
 use borrow.Author.Needs.{needs}
 use Rattle.lent_mesh.specs.Stored.{inHand}
-use Rattle.sign_words.specs.Cells.{cellsIn}
-use Rattle.sign_words.proofs.LowestBits.{gone-less, onward-first}
+use Rattle.sign_cells.specs.Cells.{cellsIn}
+use Rattle.sign_cells.proofs.LowestBits.{gone-less, onward-first}
 use Rattle.grid_walk.proofs.OneCell.{cell-of-row}
 use Rattle.grid_walk.proofs.WordLoop.{Walked, walked-found, walked-next, walked-last}
 use Rattle.grid_walk.proofs.word_cells.Statement.{statement}

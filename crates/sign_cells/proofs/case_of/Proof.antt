@@ -1,8 +1,8 @@
 -- `case_of`: two bits of each word, put together in the order of the corners.
 use borrow.Author.Needs.{needs}
-use Rattle.sign_words.proofs.QuadBits.{caseNumber, caseNumber-lt, caseNumber-signs}
-use Rattle.sign_words.proofs.case_of.Statement.{statement}
-use Rattle.sign_words.proofs.case_of.Tie as tie
+use Rattle.sign_cells.proofs.QuadBits.{caseNumber, caseNumber-lt, caseNumber-signs}
+use Rattle.sign_cells.proofs.case_of.Statement.{statement}
+use Rattle.sign_cells.proofs.case_of.Tie as tie
 
 shr-a : tie.Need-shr-a
 shr-a c = search needs

@@ -4,7 +4,7 @@ use Prim.Native.Nat.{ℕ, _+_, _*_, _-_, _%_, _^_, _≤_, _<_}
 use native.Mathlib.Nat.{mod-eq-of-lt, one-mul, mod-one}
 use native.Mathlib.Omega.{arith}
 use lib.Pow.{pow-pos, shl-exact}
-use Rattle.sign_words.specs.Cells.{cellsIn}
+use Rattle.sign_cells.specs.Cells.{cellsIn}
 
 module _ (word n k : ℕ) where
   -- the word is full

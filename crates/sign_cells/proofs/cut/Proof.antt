@@ -1,9 +1,9 @@
 -- `cut`: all 32 bits, those of the cells that are left, or none.
 use native.Mathlib.Omega.{arith}
 use borrow.Author.Needs.{needs}
-use Rattle.sign_words.proofs.RowEnd.{cut-pos, cut-none, cut-some, cut-all}
-use Rattle.sign_words.proofs.cut.Statement.{statement}
-use Rattle.sign_words.proofs.cut.Tie as tie
+use Rattle.sign_cells.proofs.RowEnd.{cut-pos, cut-none, cut-some, cut-all}
+use Rattle.sign_cells.proofs.cut.Statement.{statement}
+use Rattle.sign_cells.proofs.cut.Tie as tie
 
 mul-first : tie.Need-mul-first
 mul-first c = search needs

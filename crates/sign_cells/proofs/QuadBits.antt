@@ -16,10 +16,10 @@ use Rattle.marching_cubes_tables.proofs.Tests.{both-left, both-right}
 use Rattle.walk.specs.Walk.{bit, signs}
 use Rattle.walk.proofs.SignByte.{byte, signs-byte}
 use Rattle.lent_mesh.specs.Grid.{insideOf}
-use Rattle.sign_words.specs.declared.Quad.{Quad}
-use Rattle.sign_words.specs.Cells.{RowSigns, QuadOf, cellsIn, mixed, activeWord}
+use Rattle.sign_cells.specs.declared.Quad.{Quad}
+use Rattle.sign_cells.specs.Cells.{RowSigns, QuadOf, cellsIn, mixed, activeWord}
 use Rattle.sign_words.proofs.Words.{wordOf-of-bits}
 use Rattle.sign_words.proofs.OneBit.{and-bit, or-bit, xor-bit, shift-bit}
 
 -- ---- a test over so many Bools, computed, and what it says of each list of them
 

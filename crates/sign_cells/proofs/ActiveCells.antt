@@ -13,8 +13,8 @@ use Rattle.walk.specs.Walk.{Inside, bit, signs, cellEdges}
 use Rattle.walk.proofs.Bools.{or-split}
 use Rattle.walk.proofs.CellEdges.{cellEdges-outside, cellEdges-inside}
 use Rattle.lent_mesh.specs.Grid.{insideOf}
-use Rattle.sign_words.specs.Cells.{cellsIn, mixed, activeWord}
+use Rattle.sign_cells.specs.Cells.{cellsIn, mixed, activeWord}
 use Rattle.sign_words.proofs.Words.{wordOf-lt, wordOf-bit}
 
 pub mixed-none : (g : Inside) (x y z : ℕ) → mixed g x y z ≡ false → cellEdges g x y z ≡ []
 unfolding mixed

@@ -12,8 +12,8 @@ use lib.Count.{trailingZeros, under}
 use Rattle.marching_cubes_tables.specs.Rule.{bitAt}
 use Rattle.walk.specs.Walk.{times}
 use Rattle.walk_models.specs.Owned.{Count}
 use Rattle.sign_words.proofs.OneBit.{multiple-bit}
-use Rattle.sign_words.proofs.SetBits.{trailing-below, trailing-top, skip, to-end}
+use Rattle.sign_cells.proofs.SetBits.{trailing-below, trailing-top, skip, to-end}
 
 -- ---- the lowest set bit
 

@@ -2,8 +2,8 @@
 use Prim.Native.Nat.{_+_}
 use native.Mathlib.Omega.{arith}
 use borrow.Author.Needs.{needs}
-use Rattle.sign_words.proofs.quad_at.Statement.{statement}
-use Rattle.sign_words.proofs.quad_at.Tie as tie
+use Rattle.sign_cells.proofs.quad_at.Statement.{statement}
+use Rattle.sign_cells.proofs.quad_at.Tie as tie
 
 long-word-requires : tie.Need-long-word-requires
 long-word-requires c κs = search needs

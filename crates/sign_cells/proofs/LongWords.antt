@@ -14,10 +14,10 @@ use borrow.Author.Tests.{lt-ltb}
 use Rattle.marching_cubes_tables.specs.Rule.{bitAt}
 use Rattle.walk.specs.Walk.{bit}
 use Rattle.lent_mesh.specs.Grid.{insideOf}
 use Rattle.sign_words.specs.Words.{insideRow, LayerWords}
-use Rattle.sign_words.specs.Cells.{LongWordFrom}
+use Rattle.sign_cells.specs.Cells.{LongWordFrom}
 use Rattle.sign_words.proofs.Words.{wordOf-bit}
 use Rattle.sign_words.proofs.OneBit.{or-bit, multiple-bit}
 
 or-none : (p : Bool) → p || false ≡ p
 or-none true = refl

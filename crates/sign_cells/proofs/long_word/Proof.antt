@@ -1,9 +1,9 @@
 -- `long_word`: two words of 32 bits, one above the other.
 use native.Mathlib.Omega.{arith}
 use borrow.Author.Needs.{needs}
-use Rattle.sign_words.proofs.LongWords.{longWord-signs}
-use Rattle.sign_words.proofs.long_word.Statement.{statement}
-use Rattle.sign_words.proofs.long_word.Tie as tie
+use Rattle.sign_cells.proofs.LongWords.{longWord-signs}
+use Rattle.sign_cells.proofs.long_word.Statement.{statement}
+use Rattle.sign_cells.proofs.long_word.Tie as tie
 
 mul-at : tie.Need-mul-at
 mul-at c = search needs

@@ -1,9 +1,9 @@
 -- `active`: the word of the mixed cells, by `mixedWord-active`.
 use mathlib.Core.Path.{_∙_}
 use borrow.Author.Needs.{needs}
-use Rattle.sign_words.proofs.QuadBits.{someWord, everyWord, mixedWord, mixedWord-active}
-use Rattle.sign_words.proofs.active.Statement.{statement}
-use Rattle.sign_words.proofs.active.Tie as tie
+use Rattle.sign_cells.proofs.QuadBits.{someWord, everyWord, mixedWord, mixedWord-active}
+use Rattle.sign_cells.proofs.active.Statement.{statement}
+use Rattle.sign_cells.proofs.active.Tie as tie
 
 cast-cut : tie.Need-cast-cut
 cast-cut c = search needs

@@ -5,9 +5,9 @@ use native.Mathlib.Omega.{arith}
 use lib.Dec.{eqb}
 use borrow.Author.Needs.{needs}
 use borrow.Author.Tests.{eqb-true}
-use Rattle.sign_words.proofs.OutsideRows.{ZeroWords, zeroWords-none, zeroWords-suc, row-outside}
-use Rattle.sign_words.proofs.outside.Statement.{statement}
-use Rattle.sign_words.proofs.outside.Tie as tie
+use Rattle.sign_cells.proofs.OutsideRows.{ZeroWords, zeroWords-none, zeroWords-suc, row-outside}
+use Rattle.sign_cells.proofs.outside.Statement.{statement}
+use Rattle.sign_cells.proofs.outside.Tie as tie
 
 abbrev Inv-loop : tie.InvT-loop
 Inv-loop low high y some₀ i₀ some i = (some ≡ 0 → ZeroWords low high y i) × (i ≤ 8)

@@ -16,9 +16,9 @@ use Rattle.walk.specs.Walk.{Inside, bit, signs, cellEdges}
 use Rattle.walk.proofs.SignByte.{byte, signs-byte}
 use Rattle.walk.proofs.CellEdges.{cellEdges-outside}
 use Rattle.lent_mesh.specs.Grid.{insideOf}
 use Rattle.sign_words.specs.Words.{wordOf, insideRow, LayerWords}
 use Rattle.sign_words.proofs.Words.{wordOf-bit}
-use Rattle.sign_words.proofs.ActiveCells.{bit-none}
+use Rattle.sign_cells.proofs.ActiveCells.{bit-none}
 
 or-none : (a b : ℕ) → bitOr a b ≡ 0 → (a ≡ 0) × (b ≡ 0)
 or-none a b e = (omega (arith, or-add-and a b, and-le-l a b, and-le-r a b), omega (arith, or-add-and a b, and-le-l a b, and-le-r a b))

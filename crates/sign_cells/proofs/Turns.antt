@@ -6,8 +6,8 @@ use native.Mathlib.Numerals.{add-one}
 use native.Mathlib.Omega.{arith}
 use Rattle.walk.specs.Walk.{times}
 use Rattle.walk_models.specs.Owned.{Count}
-use Rattle.sign_words.specs.Cells.{cellsIn}
-use Rattle.sign_words.proofs.SetBits.{times-word}
+use Rattle.sign_cells.specs.Cells.{cellsIn}
+use Rattle.sign_cells.proofs.SetBits.{times-word}
 
 pub record Reached {S : Type 0} (count : S → Count) (step : ℕ → S → S) (start here : S) (turns growth : ℕ) : Type 0 where
   pub state : here ≡ times turns step start

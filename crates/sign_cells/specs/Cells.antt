@@ -8,8 +8,8 @@ use lib.Ieee.{Float}
 use Rattle.marching_cubes_tables.specs.Rule.{bitAt}
 use Rattle.walk.specs.Walk.{Inside, bit, signs, cellEdges}
 use Rattle.lent_mesh.specs.Grid.{insideOf}
-use Rattle.sign_words.specs.declared.Quad.{Quad}
+use Rattle.sign_cells.specs.declared.Quad.{Quad}
 use Rattle.sign_words.specs.Words.{wordOf, LayerWords}
 
 -- ---- the four words
 
