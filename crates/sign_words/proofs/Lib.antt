@@ -1,3 +1,4 @@
 pub mod Words
 pub mod RowWords
 pub mod OneBit
+pub mod KeptBits

@@ -18,7 +18,7 @@ use Rattle.lent_mesh.proofs.Places.{in-row-lt}
 use Rattle.sign_words.specs.Words.{wordOf, signWord, wordFrom, insideRow, LayerWords, WordsFilled, RowFilled}
 use Rattle.sign_words.proofs.Words.{wordOf-turn, wordOf-same, wordOf-top}
 
--- ---- a turn of the two loops
+-- ---- a turn of the loop of `part_word`
 
 pub sign-turn : (samples : List Float) (at i word : ℕ) (sign : Bool) → i < 32 → word ≡ signWord samples at i → sign ≡ inside (getD samples (at + i) nan)
     → bitOr word (boolByte sign * 2 ^ i % 2 ^ 32) ≡ signWord samples at (i + 1)

@@ -1,10 +1,10 @@
 -- The sign words of a layer of samples: 32 bits to a word, four words to a row. A private model, which the contracts of this crate and of the walk
 -- cite; nobody need believe it.
-use mathlib.Core.Bool.{Bool, _&&_}
+use mathlib.Core.Bool.{Bool, not, _&&_, _||_}
 use mathlib.Core.Path.{_≡_}
 use mathlib.Core.List.{List}
 use Prim.Native.Nat.{ℕ, zero, suc, _+_, _*_, _^_, _≤_, _<_}
-use lib.Dec.{ltb}
+use lib.Dec.{eqb, ltb}
 use lib.ListN.{getD}
 use lib.Ieee.{Float, nan}
 use Rattle.marching_cubes_impl.specs.Sample.{inside}
@@ -15,6 +15,10 @@ use Rattle.lent_mesh.specs.Grid.{insideOf}
 unfoldable pub wordOf : (ℕ → Bool) → ℕ → ℕ
 wordOf f zero = 0
 wordOf f (suc k) = wordOf f k + bit (f k) * 2 ^ k
+
+-- every bit is set but for bit i, which is as told
+abbrev pub keptBit : Bool → ℕ → ℕ → Bool
+keptBit sign i j = not (eqb j i) || sign
 
 -- the signs of the k samples from a place on
 abbrev pub signWord : List Float → ℕ → ℕ → ℕ

@@ -4,7 +4,7 @@ ghost use mathlib.Core.Path.{_≡_};
 ghost use Prim.Native.Nat.{_+_, _*_, _/_, _≤_, _<_};
 ghost use lib.ListN.{length};
 ghost use Rattle.marching_cubes_impl.specs.Sample.{inside};
-ghost use Rattle.sign_words.specs.Words.{signWord, wordFrom, LayerWords, WordsFrom, RowFilled};
+ghost use Rattle.sign_words.specs.Words.{wordOf, keptBit, signWord, wordFrom, LayerWords, WordsFrom, RowFilled};
 
 // The sign of a sample. A NaN is outside.
 fn is_inside(sample: f32) -> bool
@@ -13,15 +13,28 @@ fn is_inside(sample: f32) -> bool
     sample <= 0.0
 }
 
-// The signs of 32 samples. The count is written out, so that the loop can take several at a time.
+// Every bit, but for bit i where the sample is outside.
+fn kept(inside: bool, i: usize) -> u32
+    requires { ⌜ i < 32 ⌝ }
+    ensures { λ r. ⌜ r ≡ wordOf (keptBit inside i) 32 ⌝ }
+{
+    if inside {
+        0xFFFF_FFFF
+    } else {
+        0xFFFF_FFFF - (1u32 << i)
+    }
+}
+
+// The signs of 32 samples: of all bits those of the samples outside go. The count is written out, and each
+// turn is an `&` with a word that is not one bit, so that the compiler takes four samples at a time.
 fn whole_word(samples: &[f32], at: usize) -> u32
     requires { ⌜ at + 32 ≤ length (now samples) ⌝ }
     ensures { λ r. ⌜ r ≡ signWord (now (samples .entry)) at 32 ⌝ }
 {
-    let mut word: u32 = 0;
+    let mut word: u32 = 0xFFFF_FFFF;
     let mut i: usize = 0;
     while i < 32 {
-        word = word | ((is_inside(samples[at + i]) as u32) << i);
+        word = word & kept(is_inside(samples[at + i]), i);
         i += 1;
     }
     word

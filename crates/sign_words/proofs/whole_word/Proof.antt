@@ -1,22 +1,29 @@
--- `whole_word`: after i turns the word has the signs of the first i samples.
+-- `whole_word`: after i turns the first i bits are the signs of their samples, and the others are still set.
+use mathlib.Core.Bool.{Bool}
+use mathlib.Core.List.{List}
 use mathlib.Core.Path.{_≡_, ap, _∙_}
-use Prim.Native.Nat.{ℕ, _-_, _≤_}
+use Prim.Native.Nat.{ℕ, _+_, _-_, _≤_}
 use native.Mathlib.Omega.{arith}
+use lib.ListN.{getD}
+use lib.Ieee.{Float, nan}
 use borrow.Author.Needs.{needs}
-use Rattle.sign_words.specs.Words.{wordOf, signWord}
-use Rattle.sign_words.proofs.RowWords.{sign-turn}
+use Rattle.marching_cubes_impl.specs.Sample.{inside}
+use Rattle.sign_words.specs.Words.{wordOf}
+use Rattle.sign_words.proofs.KeptBits.{still, still-none, still-all, still-turn}
 use Rattle.sign_words.proofs.whole_word.Statement.{statement}
 use Rattle.sign_words.proofs.whole_word.Tie as tie
 
+abbrev sign : List Float → ℕ → ℕ → Bool
+sign samples at i = inside (getD samples (at + i) nan)
+
 abbrev Inv-loop : tie.InvT-loop
-Inv-loop samples at word₀ i₀ word i = (i ≤ 32) × (word ≡ signWord samples at i)
+Inv-loop samples at word₀ i₀ word i = (i ≤ 32) × (word ≡ wordOf (still (sign samples at) i) 32)
 
 abbrev μ-loop : tie.MeasureT-loop
 μ-loop samples at word₀ i₀ word i = 32 - i
 
 loop-holds : tie.Need-loop-holds Inv-loop μ-loop
-unfolding wordOf
-loop-holds c = search needs
+loop-holds c = (search needs, still-none (sign (c .before .args .samples .now) (c .before .args .at)))
 
 add-is-inside : tie.Need-add-is-inside Inv-loop μ-loop
 add-is-inside c = search needs
@@ -30,14 +37,8 @@ shared-slice-read-is-inside c = search needs
 is-inside-requires : tie.Need-is-inside-requires Inv-loop μ-loop
 is-inside-requires c κs = search needs
 
-cast-word : tie.Need-cast-word Inv-loop μ-loop
-cast-word c = search needs
-
-cast-word-2 : tie.Need-cast-word-2 Inv-loop μ-loop
-cast-word-2 c = search needs
-
-shl-word : tie.Need-shl-word Inv-loop μ-loop
-shl-word c = search needs
+kept-requires : tie.Need-kept-requires Inv-loop μ-loop
+kept-requires c κs = search needs
 
 add-i : tie.Need-add-i Inv-loop μ-loop
 add-i c = search needs
@@ -47,15 +48,26 @@ loop-less c = search needs
 
 loop-again : tie.Need-loop-again Inv-loop μ-loop
 loop-again c =
-    let at-loop = c .before .before .before in
-    let args = at-loop .before .before .args in
-    (omega arith, sign-turn (args .samples .now) (args .at) (at-loop .loop .i) (at-loop .loop .word) _ (omega arith) (at-loop .loop .inv .1) (c .is-inside .ensures))
+    let at-loop = c .before .before .before .before in
+    let args = at-loop .before .before .args in (
+      omega arith,
+      still-turn
+          (sign (args .samples .now) (args .at))
+          (at-loop .loop .i)
+          (at-loop .loop .word)
+          (c .kept .result)
+          (c .before .is-inside .result)
+          (at-loop .loop .inv .1)
+          (c .kept .ensures)
+          (c .before .is-inside .ensures),
+    )
 
 returns : tie.Need-returns Inv-loop μ-loop
 returns c =
     let args = c .before .before .before .args in
     let all : c .before .loop .i ≡ 32 = omega arith in
-    c .before .loop .inv .1 ∙ ap (signWord (args .samples .now) (args .at)) all
+    let signs = sign (args .samples .now) (args .at) in
+    c .before .loop .inv .1 ∙ ap (λ (i : ℕ). wordOf (still signs i) 32) all ∙ still-all signs
 
 pub whole-word-spec : {M : Type 1} → statement M
 whole-word-spec =
@@ -68,9 +80,7 @@ whole-word-spec =
     mul-is-inside
     shared-slice-read-is-inside
     is-inside-requires
-    cast-word
-    cast-word-2
-    shl-word
+    kept-requires
     add-i
     loop-less
     loop-again
