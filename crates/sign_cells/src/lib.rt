@@ -44,7 +44,7 @@ pub fn quad_at(low: &[u32; 513], high: &[u32; 513], y: usize, k: usize) -> Quad
 }
 
 // The bits of the cells of word k; those past the row's last cell are cut off.
-fn cut(word: u32, n: usize, k: usize) -> u32
+pub fn cut(word: u32, n: usize, k: usize) -> u32
     requires { ⌜ (2 ≤ n) × (n ≤ 128) × (k < 4) ⌝ }
     ensures { λ r. ⌜ r ≡ word % 2 ^ cellsIn n k ⌝ }
 {

@@ -1,0 +1,4 @@
+pub mod Identities
+pub mod Sums
+pub mod SetBits
+mod Tallies

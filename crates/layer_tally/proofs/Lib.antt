@@ -1,0 +1,5 @@
+mod MaskBits
+mod CornerBits
+mod OutsideStart
+mod CellCounts
+mod WordSteps
