@@ -1,3 +1,4 @@
 pub mod CountWord
 pub mod CountLayer
+pub mod Spans
 pub mod CountedMesh

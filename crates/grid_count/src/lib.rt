@@ -3,7 +3,7 @@
 // word says; one of the crate numbering is counted by the edges that are held in working memory.
 ghost use mathlib.Core.Path.{_≡_};
 ghost use mathlib.Core.Bool.{cond};
-ghost use Prim.Native.Nat.{_+_, _-_, _*_, _≤_, _<_};
+ghost use Prim.Native.Nat.{ℕ, _+_, _-_, _*_, _≤_, _<_};
 ghost use lib.Dec.{eqb};
 ghost use lib.ListN.{length};
 ghost use Rattle.walk.specs.Walk.{Inside, signs, times};
@@ -13,11 +13,19 @@ ghost use Rattle.sign_words.specs.Words.{LayerWords};
 ghost use Rattle.sign_cells.specs.Cells.{QuadOf, cellsIn, activeWord};
 ghost use Rattle.joined_edges.specs.OneCell.{classOf};
 ghost use Rattle.grid_walk.specs.Steps.{rowParity};
+ghost use Rattle.grid_walk.specs.Growth.{GrowsWithin};
 ghost use Rattle.held_bits.specs.HeldCell.{held, heldRoom, clearHeld};
 ghost use Rattle.grid_count.specs.Countable.{Tables, RowIn, Countable};
 ghost use Rattle.grid_count.specs.Steps.{countStep, countSteps};
+use grid_walk::Span;
 use lent_mesh::Counts;
 use sign_cells::Quad;
+
+// What is counted, and the layers in which it is.
+pub struct Reach {
+    pub counts: Counts,
+    pub span: Span,
+}
 
 // One cell in the numbering asked for. Its case is its sign byte, the class that of its row's cells but
 // the first, and `row` the cache row that is read.
@@ -211,11 +219,33 @@ fn end_layer(numbering: u32, work: &mut [u32], n: usize, row: usize)
     }
 }
 
+// The span after layer z, from the indices counted before the layer and after it.
+fn span_after(span: Span, z: usize, before: u32, after: u32) -> Span
+    requires { ⌜ z < 128 ⌝ }
+    ensures { λ r. ⌜ ((counted : ℕ → ℕ) → GrowsWithin counted z span → counted z ≡ before → counted (z + 1) ≡ after → GrowsWithin counted (z + 1) r) ⌝ }
+{
+    if after == before {
+        return span;
+    }
+    let last = z + 1;
+    if before == 0 {
+        return Span {
+            first: z,
+            last: last,
+        };
+    }
+    Span {
+        first: span.first,
+        last: last,
+    }
+}
+
 // The whole grid. The tables are made here and lent; the joined numbering leaves working memory alone.
-pub fn count_grid(numbering: u32, samples: &[f32], n: usize, work: &mut [u32]) -> Counts
+pub fn count_grid(numbering: u32, samples: &[f32], n: usize, work: &mut [u32]) -> Reach
     requires { ⌜ (2 ≤ n) × (n ≤ 128) × (n * n * (n + 1) ≤ length (now samples)) × (heldRoom n ≤ length (now work)) ⌝ }
-    ensures { λ r. ⌜ held (now (work .exit)) r ≡ countSteps numbering n (insideOf n (now (samples .entry))) n (record { work = now (work .entry); made = 0; written = 0 }) ⌝ }
-    ensures { λ r. ⌜ (r .written ≤ 31211520) × (r .made ≤ r .written) ⌝ }
+    ensures { λ r. ⌜ held (now (work .exit)) (r .counts) ≡ countSteps numbering n (insideOf n (now (samples .entry))) n (record { work = now (work .entry); made = 0; written = 0 }) ⌝ }
+    ensures { λ r. ⌜ GrowsWithin (λ k. countSteps numbering n (insideOf n (now (samples .entry))) k (record { work = now (work .entry); made = 0; written = 0 }) .written) n (r .span) ⌝ }
+    ensures { λ r. ⌜ (r .counts .written ≤ 31211520) × (r .counts .made ≤ r .counts .written) ⌝ }
 {
     let news = packed_tables::new_words();
     let names = held_bits::name_words();
@@ -226,11 +256,12 @@ pub fn count_grid(numbering: u32, samples: &[f32], n: usize, work: &mut [u32]) -
         made: 0,
         written: 0,
     };
+    let mut span = Span { first: 0, last: 0 };
     let mut row: usize = 0;
     let mut z: usize = 0;
     while z < n {
         sign_words::fill_layer(samples, n, z + 1, &mut high);
-        reached = count_layer(
+        let next = count_layer(
             numbering,
             &news,
             &names,
@@ -243,10 +274,15 @@ pub fn count_grid(numbering: u32, samples: &[f32], n: usize, work: &mut [u32]) -
             work,
             reached,
         );
+        span = span_after(span, z, reached.written, next.written);
+        reached = next;
         row = (row + (n - 1)) % 2;
         end_layer(numbering, work, n, row);
         low = high;
         z += 1;
     }
-    reached
+    Reach {
+        counts: reached,
+        span: span,
+    }
 }

@@ -3,7 +3,7 @@ use mathlib.Core.Path.{_≡_, refl, sym, ap, _∙_}
 use mathlib.Core.Bool.{Bool, true, false, cond}
 use mathlib.Core.List.{List}
 use Prim.Native.Nat.{ℕ, suc, _+_, _-_, _*_, _%_, _≤_, _<_}
-use native.Mathlib.Nat.{suc-mul}
+use native.Mathlib.Nat.{suc-mul, mul-le-mul-right}
 use native.Mathlib.Numerals.{add-one}
 use native.Mathlib.Omega.{arith}
 use lib.Dec.{eqb}
@@ -23,6 +23,12 @@ added k m = omega arith
 -- rows take turns: 1 - r is the parity of the next row
 pub parity-next : (k r : ℕ) → r ≡ k % 2 → 1 - r ≡ (k + 1) % 2
 parity-next k r e = omega arith
+
+-- so often have rows swapped before layer z
+pub swaps-le : (n z : ℕ) → n ≤ 128 → z ≤ n → z * (n - 1) ≤ 16256
+swaps-le n z most h =
+    let small : z * (n - 1) ≤ 128 * (n - 1) = mul-le-mul-right (n - 1) (omega arith) in
+    omega arith
 
 -- rows swap n - 1 times a layer
 pub parity-layer : (n z row : ℕ) → row ≡ rowParity n z 0 → (row + (n - 1)) % 2 ≡ rowParity n (z + 1) 0

@@ -5,8 +5,8 @@ ghost use mathlib.Core.Path.{_≡_};
 ghost use Prim.Native.Nat.{ℕ, _+_, _-_, _*_, _^_, _≤_, _<_};
 ghost use mathlib.Core.Bool.{cond};
 ghost use lib.Dec.{eqb};
-ghost use lib.ListN.{length};
-ghost use Rattle.walk.specs.Walk.{signs, times};
+ghost use lib.ListN.{length, getD};
+ghost use Rattle.walk.specs.Walk.{signs, times, visits};
 ghost use Rattle.walk_models.specs.Owned.{cellsOfRow, cellsOfLayer};
 ghost use Rattle.walk_models.specs.Lent.{untouched};
 ghost use Rattle.walk_models.specs.CacheMemory.{clearRow};
@@ -17,9 +17,16 @@ ghost use Rattle.sign_words.specs.Words.{LayerWords};
 ghost use Rattle.sign_cells.specs.Cells.{QuadOf, cellsIn, activeWord};
 ghost use Rattle.joined_edges.specs.OneCell.{Slots, classOf};
 ghost use Rattle.grid_walk.specs.Steps.{layerParity, rowParity, cellStep, walkSteps};
+ghost use Rattle.grid_walk.specs.Growth.{GrowsWithin};
 ghost use Rattle.grid_walk.specs.Ready.{Tables, RowOf, LayerOf, Room};
 use lent_mesh::Counts;
 use sign_cells::Quad;
+
+// The layers of cells from the first that the surface crosses up to the last: numbers `first` to `last - 1`.
+pub struct Span {
+    pub first: usize,
+    pub last: usize,
+}
 
 // One cell in the numbering asked for.
 fn one_cell(
@@ -273,18 +280,21 @@ fn end_layer(numbering: u32, work: &mut [u32], n: usize, row: usize)
     }
 }
 
-// The whole grid, from nothing made. The tables are made here and lent.
+// The grid up to the last layer of the span, from nothing made; the layers before the first have nothing to
+// make. The tables are made here and lent.
 pub fn walk(
     numbering: u32,
     samples: &[f32],
     n: usize,
+    span: Span,
     work: &mut [u32],
     vertices: &mut [f32],
     indices: &mut [u32],
 ) -> Counts
     requires { ⌜ (2 ≤ n) × (n ≤ 128) × (n * n * (n + 1) ≤ length (now samples)) × (8 * (n * n) + 6 * n ≤ length (now work)) ⌝ }
+    requires { ⌜ GrowsWithin (λ k. length (visits (insideOf n (now samples)) n k)) n span × ((i : ℕ) → i < 8 * (n * n) + 6 * n → getD (now work) i 0 ≡ 0) ⌝ }
     ensures { λ r. ⌜ inHand (now (work .exit)) (now (vertices .exit)) (now (indices .exit)) r
-        ≡ walkSteps numbering n (now (samples .entry)) n (untouched (now (work .entry)) (now (vertices .entry)) (now (indices .entry))) ⌝ }
+        ≡ walkSteps numbering n (now (samples .entry)) (span .last) (untouched (now (work .entry)) (now (vertices .entry)) (now (indices .entry))) ⌝ }
     ensures { λ r. ⌜ (r .written ≤ 31211520) × (r .made ≤ r .written) ⌝ }
 {
     let rows = packed_tables::row_words();
@@ -292,14 +302,14 @@ pub fn walk(
     let coordinates = lent_mesh::coordinates(n);
     let mut low = [0u32; 513];
     let mut high = [0u32; 513];
-    sign_words::fill_layer(samples, n, 0, &mut low);
+    sign_words::fill_layer(samples, n, span.first, &mut low);
     let mut reached = Counts {
         made: 0,
         written: 0,
     };
-    let mut row: usize = 0;
-    let mut z: usize = 0;
-    while z < n {
+    let mut row = span.first * (n - 1) % 2;
+    let mut z = span.first;
+    while z < span.last {
         sign_words::fill_layer(samples, n, z + 1, &mut high);
         reached = layer_cells(
             numbering,

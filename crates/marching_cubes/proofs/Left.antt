@@ -1,4 +1,5 @@
--- What the walk's code leaves is the defined mesh, stored from the start, in either numbering; and the working memory past what the size asks for is as it was.
+-- What the walk's code leaves is the defined mesh, stored from the start, in either numbering, though it stops after the last layer that adds something; and
+-- the working memory past what the size asks for is as it was.
 use mathlib.Core.Path.{_≡_, refl, sym, ap, _∙_, subst}
 use mathlib.Core.Bool.{Bool, true, false, cond}
 use mathlib.Core.Logic.{_⊎_, inl, inr, ⊎-elim}
@@ -11,7 +12,7 @@ use lib.ListN.{length, getD, drop, replicate}
 use lib.Seq.{sets, drop-drop}
 use lib.Ieee.{Float}
 use borrow.Author.Tests.{eqb-true}
-use Rattle.walk.specs.Walk.{Inside, times}
+use Rattle.walk.specs.Walk.{Inside, times, visits}
 use Rattle.walk.specs.Cache.{fresh}
 use Rattle.walk.specs.Numbering.{mesh, joined, crate}
 use Rattle.walk.proofs.Bools.{bool-cases}
@@ -24,8 +25,11 @@ use Rattle.walk_models.proofs.CacheWalk.{cache-walk}
 use Rattle.lent_mesh.specs.Grid.{insideOf}
 use Rattle.lent_mesh.specs.Stored.{storeAt}
 use Rattle.marching_cubes.specs.Outcome.{workRoom, Surface, surface, surfaceOf}
+use Rattle.grid_walk.specs.declared.Span.{Span}
+use Rattle.grid_walk.specs.Growth.{GrowsWithin}
 use Rattle.grid_walk.specs.Steps.{Hand, rowParity, cellStep, layerStep, walkSteps}
 use Rattle.grid_walk.proofs.CrateSteps.{walk-beside}
+use Rattle.grid_walk.proofs.IdleLayers.{walkSteps-ended}
 
 pub record LeftOf (n : ℕ) (samples : List Float) (s : Surface) (floats : List Float) (list old : List ℕ) (t : Hand) : Type 0 where
   pub made : t .made ≡ length (s .made)
@@ -89,7 +93,23 @@ module _ (n numbering : ℕ) (samples floats : List Float) (list old : List ℕ)
       })
 
   -- ---- either: the crate numbering finds the memory zero
-  pub walkSteps-left : (numbering ≡ 0 → (i : ℕ) → i < workRoom n → getD old i 0 ≡ 0) → LeftOf n samples (surfaceOf n numbering samples) floats list old end
+  walkSteps-left : (numbering ≡ 0 → (i : ℕ) → i < workRoom n → getD old i 0 ≡ 0) → LeftOf n samples (surfaceOf n numbering samples) floats list old end
   walkSteps-left zeros =
       ⊎-elim (λ (t : eqb numbering 0 ≡ true). let e : numbering ≡ 0 = eqb-true numbering 0 t in crate-left e (zeros e)) (λ (f : eqb numbering 0 ≡ false). joined-left f)
       (bool-cases (eqb numbering 0))
+
+  -- the walk that stops after the last layer of the span
+  pub span-left : (span : Span) → GrowsWithin (λ k. length (visits (insideOf n samples) n k)) n span
+      → workRoom n ≤ length (walkSteps numbering n samples (span .last) (untouched old floats list) .memory) → ((i : ℕ) → i < workRoom n → getD old i 0 ≡ 0)
+      → LeftOf n samples (surfaceOf n numbering samples) floats list old (walkSteps numbering n samples (span .last) (untouched old floats list))
+  span-left span within enough zeros =
+      let m = walkSteps-ended numbering n samples span within (untouched old floats list) enough in
+      let w = walkSteps-left (λ e. zeros) in
+      record {
+        made = sym (m .made) ∙ w .made;
+        written = sym (m .written) ∙ w .written;
+        vertices-are = sym (m .vertices) ∙ w .vertices-are;
+        indices-are = sym (m .indices) ∙ w .indices-are;
+        size = sym (m .size) ∙ w .size;
+        tail = sym (m .tail) ∙ w .tail;
+      }

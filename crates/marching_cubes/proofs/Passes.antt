@@ -11,16 +11,23 @@ use lib.ListN.{length, getD, drop, replicate, length-replicate, getD-replicate, 
 use lib.Seq.{sets-eq, drop-drop, drop-append-seam}
 use lib.Ieee.{Float}
 use borrow.Author.Tests.{eqb-true}
+use Rattle.walk.specs.Walk.{visits}
+use Rattle.walk.specs.Cache.{fresh}
+use Rattle.walk.specs.Numbering.{joined, crate}
 use Rattle.walk.proofs.Bools.{bool-cases}
+use Rattle.walk.proofs.Counts.{indices-count}
 use Rattle.walk_models.specs.Lent.{untouched}
 use Rattle.lent_mesh.specs.Grid.{insideOf, positionAt, floatsOf}
 use Rattle.lent_mesh.proofs.Floats.{floatsOf-length, stored-floats}
+use Rattle.grid_walk.specs.declared.Span.{Span}
+use Rattle.grid_walk.specs.Growth.{GrowsWithin}
 use Rattle.grid_walk.specs.Steps.{Hand, walkSteps}
 use Rattle.held_bits.specs.HeldCell.{Held, heldRoom}
 use Rattle.grid_count.specs.Steps.{countSteps}
+use Rattle.grid_count.proofs.Spans.{span-alike}
 use Rattle.grid_count.proofs.CountedMesh.{nothing, crate-counted, joined-counted}
 use Rattle.marching_cubes.specs.Outcome.{workRoom, Surface, surfaceOf, over}
-use Rattle.marching_cubes.proofs.Left.{LeftOf, walkSteps-left}
+use Rattle.marching_cubes.proofs.Left.{LeftOf, span-left}
 
 -- ---- working memory of which the first k words are zero
 
@@ -53,13 +60,15 @@ module _ (n numbering : ℕ) (samples : List Float) where
   s = surfaceOf n numbering samples
 
   -- ---- fill: the walk over the outputs
-  pub filled-pass : (k : ℕ) (old left : List ℕ) (floats : List Float) (list : List ℕ) (t : Hand) → k ≡ workRoom n → workRoom n ≤ length old
-      → ((i : ℕ) → i < workRoom n → getD old i 0 ≡ 0) → 3 * length (s .made) ≤ length floats → length (s .indices) ≤ length list
-      → t ≡ walkSteps numbering n samples n (untouched old floats list) → left ≡ cleared k (t .memory)
+  pub filled-pass : (k : ℕ) (old left : List ℕ) (floats : List Float) (list : List ℕ) (t : Hand) (span : Span) → k ≡ workRoom n → workRoom n ≤ length old
+      → length (t .memory) ≡ length old → ((i : ℕ) → i < workRoom n → getD old i 0 ≡ 0) → GrowsWithin (λ k. length (visits (insideOf n samples) n k)) n span → 3 * length (s .made) ≤ length floats → length (s .indices) ≤ length list
+      → t ≡ walkSteps numbering n samples (span .last) (untouched old floats list) → left ≡ cleared k (t .memory)
       → (left ≡ cleared (workRoom n) old) × (t .vertices ≡ over (floatsOf (map (positionAt n samples) (s .made))) floats) × (t .indices ≡ over (s .indices) list)
-  filled-pass k old left floats list t is room zeros rv ri f last =
+  filled-pass k old left floats list t span is room size zeros within rv ri f last =
       let g : left ≡ cleared (workRoom n) (t .memory) = last ∙ ap (λ (j : ℕ). cleared j (t .memory)) is in
-      let w : LeftOf n samples s floats list old t = rw f (walkSteps-left n numbering samples floats list old room (λ z. zeros)) in
+      let enough : workRoom n ≤ length (t .memory) = rw size room in
+      let w : LeftOf n samples s floats list old t =
+      rw f (span-left n numbering samples floats list old room span within (rw f at enough) zeros) in
       let count : length (floatsOf (map (positionAt n samples) (s .made))) ≡ 3 * length (s .made) =
       floatsOf-length (map (positionAt n samples) (s .made)) ∙ ap (λ (k : ℕ). 3 * k) (length-map (s .made) (positionAt n samples)) in (
         g ∙ cleared-same (workRoom n) (t .memory) old (w .tail),
@@ -111,6 +120,30 @@ counted-pass n numbering samples k old work left t is room first f last =
       c .made,
       c .written,
     ))
+    (bool-cases (eqb numbering 0))
+
+-- what is counted after each layer are the visits so far, so both grow within the same layers
+pub counted-span : (n numbering : ℕ) (samples : List Float) (old work : List ℕ) (span : Span) → workRoom n ≤ length old
+    → work ≡ cond (eqb numbering 0) (cleared (heldRoom n) old) old
+    → GrowsWithin (λ k. countSteps numbering n (insideOf n samples) k (nothing work) .written) n span
+    → GrowsWithin (λ k. length (visits (insideOf n samples) n k)) n span
+counted-span n numbering samples old work span room first within =
+    ⊎-elim
+    (λ (b : eqb numbering 0 ≡ true).
+    let e : work ≡ cleared (heldRoom n) old = first ∙ rw b refl in
+    let l : length work ≡ length old = ap length e ∙ cleared-length (heldRoom n) old (omega arith) in
+    let zero : numbering ≡ 0 = eqb-true numbering 0 b in
+    span-alike (λ k. countSteps numbering n (insideOf n samples) k (nothing work) .written) (λ k. length (visits (insideOf n samples) n k)) n span
+    (λ k.
+    ap (λ (j : ℕ). countSteps j n (insideOf n samples) k (nothing work) .written) zero
+    ∙ crate-counted n (insideOf n samples) work (omega arith) k (λ i h. rw e (cleared-at (heldRoom n) old i h)) .written
+    ∙ indices-count (crate n) fresh (insideOf n samples) n k)
+    within)
+    (λ (b : eqb numbering 0 ≡ false).
+    let e : work ≡ old = first ∙ rw b refl in
+    span-alike (λ k. countSteps numbering n (insideOf n samples) k (nothing work) .written) (λ k. length (visits (insideOf n samples) n k)) n span
+    (λ k. joined-counted n (insideOf n samples) work (rw e (omega arith)) numbering b k .written ∙ indices-count joined [] (insideOf n samples) n k)
+    within)
     (bool-cases (eqb numbering 0))
 
 -- ---- a grid without a surface: nothing is written, and there was nothing to write

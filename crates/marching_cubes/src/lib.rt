@@ -6,10 +6,14 @@ ghost use mathlib.Core.List.{map};
 ghost use Prim.Native.Nat.{ℕ, _+_, _*_, _≤_, _<_};
 ghost use lib.Dec.{eqb};
 ghost use lib.ListN.{length, getD, replicate};
-ghost use Rattle.lent_mesh.specs.Grid.{positionAt, floatsOf};
+ghost use Rattle.walk.specs.Walk.{visits};
+ghost use Rattle.lent_mesh.specs.Grid.{insideOf, positionAt, floatsOf};
+ghost use Rattle.grid_walk.specs.Growth.{GrowsWithin};
 ghost use Rattle.held_bits.specs.HeldCell.{heldRoom};
 ghost use Rattle.marching_cubes.specs.Outcome.{Outcome, workRoom, surfaceOf, over, left, filled, outcome};
 ghost use Rattle.marching_cubes.specs.Accepted.{Accepted};
+use grid_count::Reach;
+use grid_walk::Span;
 use lent_mesh::Counts;
 
 // The common answer. A field that the cause does not use is 0.
@@ -80,38 +84,42 @@ fn hold_nothing(numbering: u32, work: &mut [u32], n: usize)
     }
 }
 
-// How many vertices and indices the grid has. The working memory that the size asks for is zero
-// afterwards, whatever it held.
-fn count(numbering: u32, samples: &[f32], n: usize, work: &mut [u32]) -> Counts
+// How many vertices and indices the grid has, and the layers in which they are. The working memory that
+// the size asks for is zero afterwards, whatever it held.
+fn count(numbering: u32, samples: &[f32], n: usize, work: &mut [u32]) -> Reach
     requires { ⌜ Accepted n (now samples) (now work) ⌝ }
     ensures { λ r. ⌜ now (work .exit) ≡ over (replicate (workRoom n) 0) (now (work .entry)) ⌝ }
-    ensures { λ r. ⌜ (r .made ≡ length (surfaceOf n numbering (now (samples .entry)) .made)) × (r .written ≡ length (surfaceOf n numbering (now (samples .entry)) .indices)) ⌝ }
-    ensures { λ r. ⌜ (r .written ≤ 31211520) × (r .made ≤ r .written) ⌝ }
+    ensures { λ r. ⌜ (r .counts .made ≡ length (surfaceOf n numbering (now (samples .entry)) .made)) × (r .counts .written ≡ length (surfaceOf n numbering (now (samples .entry)) .indices)) ⌝ }
+    ensures { λ r. ⌜ GrowsWithin (λ k. length (visits (insideOf n (now (samples .entry))) n k)) n (r .span) ⌝ }
+    ensures { λ r. ⌜ (r .counts .written ≤ 31211520) × (r .counts .made ≤ r .counts .written) ⌝ }
 {
     let room = work_room(n);
     hold_nothing(numbering, work, n);
-    let counts = grid_count::count_grid(numbering, samples, n, work);
+    let reach = grid_count::count_grid(numbering, samples, n, work);
     clear(work, room);
-    counts
+    reach
 }
 
-// The mesh is written, where there is room for it and the working memory is zero.
+// The mesh is written, where there is room for it and the working memory is zero. Only the layers of the
+// span are walked.
 fn fill(
     numbering: u32,
     samples: &[f32],
     n: usize,
+    span: Span,
     work: &mut [u32],
     vertices: &mut [f32],
     indices: &mut [u32],
 )
     requires { ⌜ Accepted n (now samples) (now work) × ((i : ℕ) → i < workRoom n → getD (now work) i 0 ≡ 0) ⌝ }
+    requires { ⌜ GrowsWithin (λ k. length (visits (insideOf n (now samples)) n k)) n span ⌝ }
     requires { ⌜ (3 * length (surfaceOf n numbering (now samples) .made) ≤ length (now vertices)) × (length (surfaceOf n numbering (now samples) .indices) ≤ length (now indices)) ⌝ }
     ensures { λ _. ⌜ now (work .exit) ≡ over (replicate (workRoom n) 0) (now (work .entry)) ⌝ }
     ensures { λ _. ⌜ now (vertices .exit) ≡ over (floatsOf (map (positionAt n (now (samples .entry))) (surfaceOf n numbering (now (samples .entry)) .made))) (now (vertices .entry)) ⌝ }
     ensures { λ _. ⌜ now (indices .exit) ≡ over (surfaceOf n numbering (now (samples .entry)) .indices) (now (indices .entry)) ⌝ }
 {
     let room = work_room(n);
-    grid_walk::walk(numbering, samples, n, work, vertices, indices);
+    grid_walk::walk(numbering, samples, n, span, work, vertices, indices);
     clear(work, room);
 }
 
@@ -128,7 +136,8 @@ fn meshed(
     ensures { λ r. ⌜ left r (now (work .exit)) (now (vertices .exit)) (now (indices .exit))
         ≡ filled n numbering (now (samples .entry)) (now (work .entry)) (now (vertices .entry)) (now (indices .entry)) (surfaceOf n numbering (now (samples .entry))) ⌝ }
 {
-    let counts = count(numbering, samples, n, work);
+    let reach = count(numbering, samples, n, work);
+    let counts = reach.counts;
     let floats = 3 * (counts.made as usize);
     if vertices.len() < floats {
         return counted(6, counts);
@@ -139,7 +148,7 @@ fn meshed(
     if counts.written == 0 {
         return counted(0, counts);
     }
-    fill(numbering, samples, n, work, vertices, indices);
+    fill(numbering, samples, n, reach.span, work, vertices, indices);
     counted(0, counts)
 }
 

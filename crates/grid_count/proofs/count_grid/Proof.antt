@@ -5,27 +5,31 @@ use native.Mathlib.Nat.{zero-mul}
 use native.Mathlib.Omega.{arith}
 use lib.ListN.{length}
 use borrow.Author.Needs.{needs}
+use Rattle.walk.specs.Walk.{times}
 use Rattle.walk_models.specs.Owned.{cellsOfLayer}
 use Rattle.lent_mesh.specs.Grid.{insideOf}
 use Rattle.sign_words.specs.Words.{LayerWords}
 use Rattle.sign_words.proofs.RowWords.{planes-le}
 use Rattle.sign_cells.proofs.Turns.{Reached, reached-none, reached-next, reached-all}
 use Rattle.grid_walk.specs.Steps.{rowParity}
+use Rattle.grid_walk.specs.Growth.{GrowsWithin}
 use Rattle.grid_walk.proofs.OneCell.{parity-le}
 use Rattle.grid_walk.proofs.Layers.{parity-layer}
-use Rattle.held_bits.specs.HeldCell.{held}
+use Rattle.held_bits.specs.HeldCell.{Held, held}
 use Rattle.grid_count.specs.Steps.{countIn, countStep, endStep, countSteps}
 use Rattle.grid_count.proofs.CountLayer.{layer-done}
+use Rattle.grid_count.proofs.Spans.{span-none}
 use Rattle.grid_count.proofs.count_grid.Statement.{statement}
 use Rattle.grid_count.proofs.count_grid.Tie as tie
 
 abbrev Inv-loop : tie.InvT-loop
-Inv-loop numbering samples n work₀ news names low₀ high₀ reached₀ row₀ z₀ work low high reached row z =
+Inv-loop numbering samples n work₀ news names low₀ high₀ reached₀ span₀ row₀ z₀ work low high reached span row z =
     Reached countIn (λ j t. endStep numbering n (insideOf n samples) j (cellsOfLayer (countStep numbering n (insideOf n samples)) n j (n - 1) t)) (held work₀ reached₀) (held work reached) z (243840 * z)
     × (z ≤ n) × (row ≡ rowParity n z 0) × LayerWords n samples z low × (length work ≡ length work₀)
+    × GrowsWithin (λ k. times k (λ j t. endStep numbering n (insideOf n samples) j (cellsOfLayer (countStep numbering n (insideOf n samples)) n j (n - 1) t)) (held work₀ reached₀) .written) z span
 
 abbrev μ-loop : tie.MeasureT-loop
-μ-loop numbering samples n work₀ news names low₀ high₀ reached₀ row₀ z₀ work low high reached row z =
+μ-loop numbering samples n work₀ news names low₀ high₀ reached₀ span₀ row₀ z₀ work low high reached span row z =
     n - z
 
 new-words-requires : tie.Need-new-words-requires Inv-loop μ-loop
@@ -40,7 +44,9 @@ fill-layer-requires c κs =
     (pre .0, pre .1, planes-le _ 1 _ (omega arith) (pre .2))
 
 loop-holds : tie.Need-loop-holds Inv-loop μ-loop
-loop-holds c = (reached-none _ _ _ 243840 (omega arith), omega arith, ap (λ (k : ℕ). (k + 0) % 2) (sym (zero-mul _)), c .fill-layer .ensures, refl)
+unfolding times
+loop-holds c =
+    (reached-none _ _ _ 243840 (omega arith), omega arith, ap (λ (k : ℕ). (k + 0) % 2) (sym (zero-mul _)), c .fill-layer .ensures, refl, span-none _ refl)
 
 add-fill-layer : tie.Need-add-fill-layer Inv-loop μ-loop
 add-fill-layer c = let most = c .before .before .before .before .before .before .before .before .pre .1 in omega arith
@@ -68,26 +74,29 @@ count-layer-requires c κs =
       ),
     )
 
+span-after-requires : tie.Need-span-after-requires Inv-loop μ-loop
+span-after-requires c κs = let most = c .before .before .before .before .before .before .before .before .before .before .before .before .before .before .before .before .before .before .pre .1 in omega arith
+
 sub-row : tie.Need-sub-row Inv-loop μ-loop
-sub-row c = let least = c .before .before .before .before .before .before .before .before .before .before .before .before .before .before .before .before .before .before .pre .0 in omega arith
+sub-row c = let least = c .before .before .before .before .before .before .before .before .before .before .before .before .before .before .before .before .before .before .before .pre .0 in omega arith
 
 add-row : tie.Need-add-row Inv-loop μ-loop
 add-row c =
-    let at-loop = c .before .before .before .before .before .before .before .before .before .before .before in
+    let at-loop = c .before .before .before .before .before .before .before .before .before .before .before .before in
     let most = at-loop .before .before .before .before .before .before .before .pre .1 in
     let row = at-loop .loop .inv .2 in
     omega arith
 
 end-layer-requires : tie.Need-end-layer-requires Inv-loop μ-loop
 end-layer-requires c κs =
-    let at-loop = c .before .before .before .before .before .before .before .before .before .before .before .before in
+    let at-loop = c .before .before .before .before .before .before .before .before .before .before .before .before .before in
     let pre = at-loop .before .before .before .before .before .before .before .pre in
     let room = pre .3 in
     let same = at-loop .loop .inv .4 in
     (pre .1, parity-le _, omega arith)
 
 add-z : tie.Need-add-z Inv-loop μ-loop
-add-z c = let most = c .before .before .before .before .before .before .before .before .before .before .before .before .before .before .before .before .before .before .before .before .before .before .pre .1 in omega arith
+add-z c = let most = c .before .before .before .before .before .before .before .before .before .before .before .before .before .before .before .before .before .before .before .before .before .before .before .pre .1 in omega arith
 
 loop-less : tie.Need-loop-less Inv-loop μ-loop
 loop-less c = omega arith
@@ -95,15 +104,19 @@ loop-less c = omega arith
 loop-again : tie.Need-loop-again Inv-loop μ-loop
 loop-again c =
     let ended = c .before .before in
-    let called = ended .before .before .before .before in
+    let spanned = ended .before .before in
+    let called = spanned .before .before .before in
     let filled = called .before .before .before .before .before .before in
     let at = filled .before .before .before .loop .inv in
-    let parity = parity-layer _ _ _ (at .2) in (
-      reached-next _ _ _ 243840 _ _ _ (at .0) (layer-done _ _ _ _ _ _ _ _ _ parity (called .count-layer .ensures .0) (ended .end-layer .ensures)) (called .count-layer .ensures .1 .0) (called .count-layer .ensures .1 .1),
+    let parity = parity-layer _ _ _ (at .2) in
+    let next =
+    reached-next _ _ _ 243840 _ _ _ (at .0) (layer-done _ _ _ _ _ _ _ _ _ parity (called .count-layer .ensures .0) (ended .end-layer .ensures)) (called .count-layer .ensures .1 .0) (called .count-layer .ensures .1 .1) in (
+      next,
       omega arith,
       parity,
       filled .fill-layer2 .ensures,
-      c .before .work2 .given ∙ ended .before .before .before .work .given ∙ at .4,
+      c .before .work2 .given ∙ ended .before .before .before .before .work .given ∙ at .4,
+      spanned .span-after .ensures _ (at .5) (sym (ap (λ (t : Held). t .written) (at .0 .state))) (sym (ap (λ (t : Held). t .written) (next .state))),
     )
 
 same-length : tie.Need-same-length Inv-loop μ-loop
@@ -117,7 +130,7 @@ returns c =
     let at = c .before .loop .inv .0 in
     let grown = at .grown in
     let all : c .before .loop .z ≡ start .args .n = omega arith in
-    (reached-all _ _ _ _ _ _ _ all at, (omega arith, at .ordered))
+    (reached-all _ _ _ _ _ _ _ all at, (rw all at (c .before .loop .inv .5), (omega arith, at .ordered)))
 
 pub count-grid-spec : {M : Type 1} → statement M
 count-grid-spec =
@@ -132,6 +145,7 @@ count-grid-spec =
     add-fill-layer
     fill-layer-requires-2
     count-layer-requires
+    span-after-requires
     sub-row
     add-row
     end-layer-requires

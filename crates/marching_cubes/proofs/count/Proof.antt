@@ -1,6 +1,6 @@
 -- `count`: from nothing held, and cleared afterwards.
 use borrow.Author.Needs.{needs}
-use Rattle.marching_cubes.proofs.Passes.{counted-pass}
+use Rattle.marching_cubes.proofs.Passes.{counted-pass, counted-span}
 use Rattle.marching_cubes.proofs.count.Statement.{statement}
 use Rattle.marching_cubes.proofs.count.Tie as tie
 
@@ -29,7 +29,8 @@ returns c =
     let pass =
     counted-pass _ (start .args .numbering) (start .args .samples .now) _ (start .args .work .now) _ _ _ (sized .work-room .ensures) (start .pre .work-room) (emptied .hold-nothing .ensures)
     (counted .count-grid .ensures .0) (cleared .clear .ensures) in
-    (pass .0, ((pass .1, pass .2), counted .count-grid .ensures .1))
+    let span = counted-span _ (start .args .numbering) (start .args .samples .now) (start .args .work .now) _ _ (start .pre .work-room) (emptied .hold-nothing .ensures) (counted .count-grid .ensures .1 .0) in
+    (pass .0, ((pass .1, pass .2), (span, counted .count-grid .ensures .1 .1)))
 
 pub count-spec : {M : Type 1} → statement M
 count-spec =

@@ -1,4 +1,4 @@
--- `fill`: walked over the outputs, then cleared.
+-- `fill`: the layers of the span are walked over the outputs, then the working memory is cleared.
 use mathlib.Core.Path.{sym}
 use native.Mathlib.Nat.{le-of-eq}
 use native.Mathlib.Omega.{arith}
@@ -12,8 +12,9 @@ work-room-requires c κs = c .before .before .before .before .pre .0 .0 .most
 
 walk-requires : tie.Need-walk-requires
 walk-requires c κs =
-    let pre = c .before .before .before .before .before .before .before .before .pre .0 .0 in
-    (pre .least, pre .most, le-of-eq (sym (pre .samples-whole)), pre .work-room)
+    let start = c .before .before .before .before .before .before .before .before .pre in
+    let pre = start .0 .0 in
+    ((pre .least, pre .most, le-of-eq (sym (pre .samples-whole)), pre .work-room), (start .1 .0, start .0 .1))
 
 clear-requires : tie.Need-clear-requires
 clear-requires c κs =
@@ -36,7 +37,9 @@ returns c =
     let walked = c .before .before .before .before .before .before .before .before .before .before in
     let start = c .before .before .before .before .before .before .before .before .before .before .before .before .before .before .before .before .before .before .before in
     let pre = start .pre in
-    let pass = filled-pass _ _ _ _ _ _ _ _ _ (c .before .before .before .before .before .before .before .before .before .before .before .before .before .before .work-room .ensures) (pre .0 .0 .work-room) (pre .0 .1) (pre .1 .0) (pre .1 .1) (walked .walk .ensures .0) (c .before .before .clear .ensures) in
+    let sized = walked .before .before .before .before in
+    let pass =
+    filled-pass _ _ _ _ _ _ _ _ _ _ (sized .work-room .ensures) (pre .0 .0 .work-room) (c .before .before .before .before .before .before .before .before .before .work .given) (pre .0 .1) (pre .1 .0) (pre .1 .1 .0) (pre .1 .1 .1) (walked .walk .ensures .0) (c .before .before .clear .ensures) in
     (pass .0, (pass .1, pass .2))
 
 pub fill-spec : {M : Type 1} → statement M

@@ -14,10 +14,10 @@ count-requires : tie.Need-count-requires
 count-requires c κs = c .before .before .before .before .before .pre
 
 cast-floats : tie.Need-cast-floats
-cast-floats c = let most = c .before .before .before .count .ensures .1 .1 in omega (arith, most .0, most .1)
+cast-floats c = let most = c .before .before .before .before .count .ensures .1 .1 .1 in omega (arith, most .0, most .1)
 
 mul-floats : tie.Need-mul-floats
-mul-floats c = let most = c .before .before .before .count .ensures .1 .1 in omega (arith, most .0, most .1)
+mul-floats c = let most = c .before .before .before .before .count .ensures .1 .1 .1 in omega (arith, most .0, most .1)
 
 counted-requires : tie.Need-counted-requires
 counted-requires c κs = search needs
@@ -27,11 +27,11 @@ same-length c = search needs
 
 returns : tie.Need-returns
 returns c =
-    let found = c .before .before .before .before .before .count .ensures in
+    let found = c .before .before .before .before .before .before .count .ensures in
     vertices-left _ _ _ _ _ _ _ _ _ _ _ (found .1 .0 .0) (found .1 .0 .1) (c .counted .ensures) (found .0) (c .before .if1 .taken)
 
 cast-if2 : tie.Need-cast-if2
-cast-if2 c = let most = c .before .before .before .before .before .count .ensures .1 .1 in omega (arith, most .0)
+cast-if2 c = let most = c .before .before .before .before .before .before .count .ensures .1 .1 .1 in omega (arith, most .0)
 
 counted-requires-2 : tie.Need-counted-requires-2
 counted-requires-2 c κs = search needs
@@ -41,7 +41,7 @@ same-length-2 c = search needs
 
 returns-2 : tie.Need-returns-2
 returns-2 c =
-    let found = c .before .before .before .before .before .before .before .count .ensures in
+    let found = c .before .before .before .before .before .before .before .before .count .ensures in
     indices-left _ _ _ _ _ _ _ _ _ _ _ (found .1 .0 .0) (found .1 .0 .1) (c .counted2 .ensures) (found .0) (c .before .before .before .if1 .left) (c .before .if2 .taken)
 
 counted-requires-3 : tie.Need-counted-requires-3
@@ -53,11 +53,11 @@ same-length-3 c = search needs
 -- a grid without a surface
 returns-3 : tie.Need-returns-3
 returns-3 c =
-    let found = c .before .before .before .before .before .before .before .before .before .count .ensures in
-    let args = c .before .before .before .before .before .before .before .before .before .before .before .before .before .before .before .args in
+    let found = c .before .before .before .before .before .before .before .before .before .before .count .ensures in
+    let args = c .before .before .before .before .before .before .before .before .before .before .before .before .before .before .before .before .args in
     let s = surfaceOf (args .n) (args .numbering) (args .samples .now) in
     let none = c .before .if3 .taken in
-    let fewer = found .1 .1 .1 in
+    let fewer = found .1 .1 .1 .1 in
     let made = found .1 .0 .0 in
     let written = found .1 .0 .1 in
     let no-vertices : length (s .made) ≡ 0 = omega arith in
@@ -66,15 +66,15 @@ returns-3 c =
 
 fill-requires : tie.Need-fill-requires
 fill-requires c κs =
-    let found = c .before .before .before .before .before .before .before .before .before .before .before .count .ensures in
+    let found = c .before .before .before .before .before .before .before .before .before .before .before .before .count .ensures in
     let made = found .1 .0 .0 in
     let written = found .1 .0 .1 in
     let floats = c .before .before .before .before .before .before .before .if1 .left in
     let words = c .before .before .before .before .before .if2 .left in
-    let pre = c .before .before .before .before .before .before .before .before .before .before .before .before .before .before .before .before .before .pre in
+    let pre = c .before .before .before .before .before .before .before .before .before .before .before .before .before .before .before .before .before .before .pre in
     let room = pre .work-room in
-    let same = c .before .before .before .before .before .before .before .before .before .before .work .given in
-    ((record { least = pre .least; most = pre .most; samples-whole = pre .samples-whole; work-room = omega arith }, cleared-zeros (workRoom (c .before .before .before .before .before .before .before .before .before .before .before .before .before .before .before .before .before .args .n)) (c .before .before .before .before .before .before .before .before .before .before .before .before .before .before .before .before .before .args .work .now) _ (found .0)), (omega arith, omega arith))
+    let same = c .before .before .before .before .before .before .before .before .before .before .before .work .given in
+    ((record { least = pre .least; most = pre .most; samples-whole = pre .samples-whole; work-room = omega arith }, cleared-zeros (workRoom (c .before .before .before .before .before .before .before .before .before .before .before .before .before .before .before .before .before .before .args .n)) (c .before .before .before .before .before .before .before .before .before .before .before .before .before .before .before .before .before .before .args .work .now) _ (found .0)), (found .1 .1 .0, (omega arith, omega arith)))
 
 counted-requires-4 : tie.Need-counted-requires-4
 counted-requires-4 c κs = search needs
@@ -90,8 +90,8 @@ same-length-6 c = search needs
 
 returns-4 : tie.Need-returns-4
 returns-4 c =
-    let start = c .before .before .before .before .before .before .before .before .before .before .before .before .before .before .before .before .before .before .before .before .before .before .before .before .before in
-    let found = c .before .before .before .before .before .before .before .before .before .before .before .before .before .before .before .before .before .before .before .count .ensures in
+    let start = c .before .before .before .before .before .before .before .before .before .before .before .before .before .before .before .before .before .before .before .before .before .before .before .before .before .before in
+    let found = c .before .before .before .before .before .before .before .before .before .before .before .before .before .before .before .before .before .before .before .before .count .ensures in
     let filled = c .before .before .before .before .before .before .before .fill .ensures in
     let made = found .1 .0 .0 in
     let written = found .1 .0 .1 in
