@@ -27,6 +27,7 @@ pub record Words (class s row fresh : ℕ) : Type 0 where
   pub new-edges : oneByOne fresh ≡ newEdges (ownedIn class) (rowEdges s)
   pub row-known : Edges (inThrees row)
   pub new-known : Edges (oneByOne fresh)
+  pub new-count : length (newEdges (ownedIn class) (rowEdges s)) ≡ fresh / 2 ^ 60
   pub row-most : 3 * (row / 2 ^ 60) ≤ 15
   pub new-most : fresh / 2 ^ 60 ≤ 3 * (row / 2 ^ 60)
   pub same-indices : indicesOf fresh ≡ 3 * (row / 2 ^ 60)
@@ -47,6 +48,7 @@ words-hold class s row fresh hs er en ei =
       new-edges = en;
       row-known = subst Edges (sym er) all;
       new-known = subst Edges (sym en) (newEdges-edges (ownedIn class) (rowEdges s) all);
+      new-count = new-count;
       row-most = subst (λ (k : ℕ). k ≤ 15) row-count (rule .most);
       new-most = le-along new-count row-count (newEdges-length-le (ownedIn class) (rowEdges s));
       same-indices = ei ∙ row-count;
@@ -54,11 +56,12 @@ words-hold class s row fresh hs er en ei =
 
 -- how far the counts go with them, by what each pass says of them
 pub counts-grown : (class s row fresh made written made-all written-then made-now written-now : ℕ) → Words class s row fresh → made ≤ written
-    → made-all ≡ made + fresh / 2 ^ 60 → written-then ≡ written → made-now ≡ made-all → written-now ≡ written-then + 3 * (row / 2 ^ 60)
+    → made-all ≡ made + length (newEdges (ownedIn class) (rowEdges s)) → written-then ≡ written → made-now ≡ made-all → written-now ≡ written-then + 3 * (row / 2 ^ 60)
     → (made-now ≤ written-now) × (written-now ≤ written + 15)
 counts-grown class s row fresh made written made-all written-then made-now written-now w h a b d e =
     let most = w .row-most in
     let fewer = w .new-most in
+    let count = w .new-count in
     (omega arith, omega arith)
 
 -- as the code reads them
@@ -104,13 +107,13 @@ module _ (g : Inside) (x y z class s row fresh : ℕ) (es : s ≡ signs g x y z)
   unfolding cellEdges
   row-of-cell = w .row-edges ∙ ap rowEdges es
 
-  new-of-cell : oneByOne fresh ≡ cellNew g x y z
+  new-of-cell : newEdges (ownedIn class) (rowEdges s) ≡ cellNew g x y z
   unfolding cellNew cellEdges
-  new-of-cell = w .new-edges ∙ ap₂ newEdges (class-owned x y z class ec) (ap rowEdges es)
+  new-of-cell = ap₂ newEdges (class-owned x y z class ec) (ap rowEdges es)
 
   -- the code's two passes are the cell
   pub cell-passes : {B : Type 0} (store : Visit → ℕ → B → B) (n : ℕ) (before made named : Lent (List ℕ) B)
-      → made ≡ each (makeEdge store n z y x) (oneByOne fresh) before → named ≡ each (nameEdge store n z y x) (inThrees row) made
+      → made ≡ each (makeEdge store n z y x) (newEdges (ownedIn class) (rowEdges s)) before → named ≡ each (nameEdge store n z y x) (inThrees row) made
       → named ≡ ownedCell store n g z y x before
   unfolding ownedCell each
   cell-passes store n before made named em en =
@@ -122,5 +125,5 @@ module _ (g : Inside) (x y z class s row fresh : ℕ) (es : s ≡ signs g x y z)
       → after ≡ countCell g z y x before
   cell-counts before after em en =
       ap₂ (λ (i j : ℕ). record { made = i; written = j })
-      (em ∙ ap (λ (k : ℕ). before .made + k) (sym (unpacked-length (fresh / 2 ^ 60) (fresh % 2 ^ 60)) ∙ ap length new-of-cell))
+      (em ∙ ap (λ (k : ℕ). before .made + k) (sym (w .new-count) ∙ ap length new-of-cell))
       (en ∙ ap (λ (k : ℕ). before .written + k) (sym (unpacked-length (3 * (row / 2 ^ 60)) (row % 2 ^ 60)) ∙ ap length row-of-cell))

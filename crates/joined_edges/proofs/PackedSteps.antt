@@ -7,10 +7,9 @@ use lib.ListN.{length, getD, set}
 use Rattle.walk.specs.Walk.{Visit, times}
 use Rattle.walk.specs.Edges.{edgeOf}
 use Rattle.walk.proofs.OwnedCells.{fold, times-fold}
-use Rattle.walk_models.specs.Lent.{Lent}
 use Rattle.walk_models.specs.Owned.{edgeVisit, slot, makeEdge, nameEdge}
 use Rattle.packed_tables.specs.Unpacked.{unpacked, Edges}
-use Rattle.joined_edges.specs.OneCell.{SlotsFrom, each}
+use Rattle.joined_edges.specs.OneCell.{SlotsFrom, each, hand}
 
 -- ---- step by step
 
@@ -51,9 +50,6 @@ unfolding each times unpacked
 each-none step left rest s h = ap (λ (k : ℕ). each step (unpacked k rest) s) h
 
 -- ---- edges made, edges named
-
-abbrev pub hand : {B : Type 0} → List ℕ → B → List ℕ → ℕ → ℕ → Lent (List ℕ) B
-hand work b l made written = record { memory = work; vertices = b; indices = l; made = made; written = written }
 
 module _ {B : Type 0} (store : Visit → ℕ → B → B) (n x y z at : ℕ) (slots : List ℕ) (places : SlotsFrom at slots n x y z)
     (left rest : ℕ) (more : 0 < left) (es : Edges (unpacked left rest)) (made written : ℕ) (work l : List ℕ) (b : B) where

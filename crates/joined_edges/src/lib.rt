@@ -1,15 +1,19 @@
 // One cell of the joined walk, in lent memory: its new edges are numbered and their vertices put, then
 // the numbers of its row's edges are written as indices. Both lists come packed, a word for a cell.
+mod inner;
+
 ghost use mathlib.Core.Path.{_≡_};
 ghost use mathlib.Core.List.{List};
 ghost use Prim.Native.Nat.{ℕ, _+_, _*_, _%_, _^_, _≤_, _<_};
 ghost use lib.Dec.{eqb};
 ghost use lib.ListN.{length, getD};
 ghost use lib.Ieee.{Float};
+ghost use Rattle.marching_cubes_tables.specs.Rule.{rowEdges};
 ghost use Rattle.walk.specs.Walk.{Visit, Inside, bit, signs};
+ghost use Rattle.walk.specs.Ownership.{newEdges};
 ghost use Rattle.walk_models.specs.Owned.{makeEdge, nameEdge, ownedCell, countCell};
 ghost use Rattle.packed_tables.specs.Unpacked.{unpacked, Edges};
-ghost use Rattle.packed_tables.specs.Packed.{rowWords, newWords};
+ghost use Rattle.packed_tables.specs.Packed.{ownedIn, rowWords, newWords};
 ghost use Rattle.lent_mesh.specs.Grid.{insideOf};
 ghost use Rattle.lent_mesh.specs.Stored.{storeAt, inHand, CellOf, Coordinates};
 ghost use Rattle.joined_edges.specs.OneCell.{Slots, SlotsFrom, each, classOf, countOf};
@@ -132,6 +136,68 @@ fn new_word(news: &[u64; 2048], case: usize, class: usize) -> u64
     news[256 * class + case]
 }
 
+// The new edges of a cell are made, by its word in `news`.
+fn make_new(
+    news: &[u64; 2048],
+    samples: &[f32],
+    coordinates: &[f32; 129],
+    slots: &[usize; 12],
+    n: usize,
+    x: usize,
+    y: usize,
+    z: usize,
+    at: usize,
+    case: usize,
+    class: usize,
+    work: &mut [u32],
+    vertices: &mut [f32],
+    counts: Counts,
+) -> Counts
+    requires { ⌜ CellOf (now samples) n x y z ⌝ }
+    requires { ⌜ (now news ≡ newWords) × (case < 256) × (class < 8) ⌝ }
+    requires { ⌜ Coordinates n (now coordinates) × SlotsFrom at (now slots) n x y z ⌝ }
+    requires { ⌜ (8 * (n * n) ≤ length (now work)) × (counts .made + 15 < 2 ^ 32) ⌝ }
+    ensures { λ r. ⌜ ((l : List ℕ) → inHand (now (work .exit)) (now (vertices .exit)) l r
+        ≡ each (makeEdge (storeAt n (now (samples .entry))) n z y x) (newEdges (ownedIn class) (rowEdges case)) (inHand (now (work .entry)) (now (vertices .entry)) l counts)) ⌝ }
+    ensures { λ r. ⌜ (r .made ≡ counts .made + length (newEdges (ownedIn class) (rowEdges case))) × (r .written ≡ counts .written) ⌝ }
+{
+    let word = new_word(news, case, class);
+    if class == 0 {
+        inner::make_inner(
+            samples,
+            coordinates,
+            slots,
+            n,
+            x,
+            y,
+            z,
+            at,
+            word,
+            work,
+            vertices,
+            counts,
+        )
+    } else {
+        let list = word % 0x1000_0000_0000_0000;
+        let count = (word >> 60) as usize;
+        make_all(
+            samples,
+            coordinates,
+            slots,
+            n,
+            x,
+            y,
+            z,
+            at,
+            list,
+            count,
+            work,
+            vertices,
+            counts,
+        )
+    }
+}
+
 // One cell. Its case is its sign byte, its class says which of its edges it owns; there is a word for
 // each case in `rows` and for each class and case in `news`.
 pub fn joined_cell(
@@ -159,10 +225,10 @@ pub fn joined_cell(
         ≡ ownedCell (storeAt n (now (samples .entry))) n (insideOf n (now (samples .entry))) z y x (inHand (now (work .entry)) (now (vertices .entry)) (now (indices .entry)) counts) ⌝ }
     ensures { λ r. ⌜ (r .made ≤ r .written) × (r .written ≤ counts .written + 15) ⌝ }
 {
-    let fresh = new_word(news, case, class);
     let row = rows[case];
     let at = 8 * (y * n + x);
-    let made = make_all(
+    let made = make_new(
+        news,
         samples,
         coordinates,
         slots,
@@ -171,8 +237,8 @@ pub fn joined_cell(
         y,
         z,
         at,
-        fresh % 0x1000_0000_0000_0000,
-        (fresh >> 60) as usize,
+        case,
+        class,
         work,
         vertices,
         counts,

@@ -1,2 +1,3 @@
 pub mod FirstNamed
 pub mod Words
+pub mod Marks

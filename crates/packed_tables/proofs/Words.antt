@@ -17,13 +17,13 @@ use Rattle.packed_tables.specs.Unpacked.{unpacked}
 use Rattle.packed_tables.specs.Packed.{ownedIn, rowWords, newWordsByClass, newWords}
 use Rattle.packed_tables.proofs.FirstNamed.{firstNamed, kept, newEdges-firstNamed}
 
-abbrev alike : List ℕ → List ℕ → Bool
+abbrev pub alike : List ℕ → List ℕ → Bool
 alike [] [] = true
 alike [] (b ∷ bs) = false
 alike (a ∷ as₀) [] = false
 alike (a ∷ as₀) (b ∷ bs) = eqb a b && alike as₀ bs
 
-alike-eq : (as₀ bs : List ℕ) → T (alike as₀ bs) → as₀ ≡ bs
+pub alike-eq : (as₀ bs : List ℕ) → T (alike as₀ bs) → as₀ ≡ bs
 alike-eq [] [] t = refl
 alike-eq [] (b ∷ bs) t = absurd t
 alike-eq (a ∷ as₀) [] t = absurd t
@@ -94,7 +94,7 @@ classes-length : length newWordsByClass ≡ 8
 unfolding newWordsByClass
 classes-length = refl
 
-class-length : (class : ℕ) → class < 8 → length (getD newWordsByClass class []) ≡ 256
+pub class-length : (class : ℕ) → class < 8 → length (getD newWordsByClass class []) ≡ 256
 class-length class h = wide-at 256 newWordsByClass classes-wide class (subst (λ (n : ℕ). class < n) (sym classes-length) h)
   where
     wide-at : (n : ℕ) (ls : List (List ℕ)) → T (wide n ls) → (k : ℕ) → k < length ls → length (getD ls k []) ≡ n
@@ -103,10 +103,10 @@ class-length class h = wide-at 256 newWordsByClass classes-wide class (subst (λ
     wide-at n (l ∷ ls) t (suc k) h = wide-at n ls (both-right (eqb (length l) n) (wide n ls) t) k (le-of-suc-le-suc h)
 
 module _ (class s : ℕ) (hc : class < 8) (hs : s < 256) where
-  abbrev word : ℕ
+  abbrev pub word : ℕ
   word = getD (getD newWordsByClass class []) s 0
 
-  word-at : getD newWords (256 * class + s) 0 ≡ word
+  pub word-at : getD newWords (256 * class + s) 0 ≡ word
   unfolding newWords
   word-at = flat-at 256 0 newWordsByClass classes-wide class s (subst (λ (n : ℕ). class < n) (sym classes-length) hc) hs
 

@@ -1,4 +1,5 @@
 pub mod ByComputation
+pub mod AnyOrder
 pub mod Writing
 pub mod Window
 pub mod JoinedCells

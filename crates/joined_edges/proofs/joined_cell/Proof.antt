@@ -1,7 +1,7 @@
 -- `joined_cell`: the two words hold the new edges and the row, so the two passes are the cell.
 use mathlib.Core.Path.{_≡_, refl}
 use Prim.Native.Nat.{ℕ, _+_, _*_, _<_}
-use native.Mathlib.Nat.{le-trans, le-refl, add-le-add, lt-of-le-of-lt}
+use native.Mathlib.Nat.{le-refl, add-le-add, lt-of-le-of-lt}
 use native.Mathlib.Omega.{arith}
 use lib.ListN.{getD}
 use borrow.Author.Needs.{needs}
@@ -19,13 +19,10 @@ case-small c = case-lt _ _ _ _ _ (c .pre .1 .1 .0 .0)
 class-small : (c : tie.Start) → c .args .class < 8
 class-small c = class-lt (c .args .x) (c .args .y) (c .args .z) _ (c .pre .1 .1 .0 .1)
 
-held : (c : tie.After-new-word)
-    → (let args = c .before .before .before .before .before .args in
-    Words (args .class) (args .case) (getD (args .rows .now) (args .case) 0) (c .new-word .result))
-held c =
-    let start = c .before .before .before .before .before in
-    words _ _ _ (start .args .rows .now) (start .args .news .now) (class-small start) (case-small start)
-    (start .pre .1 .0 .0) (start .pre .1 .0 .1) (c .new-word .ensures)
+held : (c : tie.Start)
+    → (let args = c .args in
+    Words (args .class) (args .case) (getD (args .rows .now) (args .case) 0) (getD (args .news .now) (256 * args .class + args .case) 0))
+held c = words _ _ _ (c .args .rows .now) (c .args .news .now) (class-small c) (case-small c) (c .pre .1 .0 .0) (c .pre .1 .0 .1) refl
 
 cell-slots : (c : tie.Start) (at : ℕ) → at ≡ 8 * (c .args .y * c .args .n + c .args .x)
     → SlotsFrom at (c .args .slots .now) (c .args .n) (c .args .x) (c .args .y) (c .args .z)
@@ -38,34 +35,30 @@ at-small c =
     let in-y = cell .in-y in
     row-small (c .args .n) (c .args .x) (c .args .y) (cell .most) (omega arith) (omega arith)
 
-new-word-requires : tie.Need-new-word-requires
-new-word-requires c κs = let start = c .before .before .before .before in (case-small start, class-small start)
-
 mul-row : tie.Need-mul-row
-mul-row c = let start = c .before .before .before .before .before in let case-lt = case-small start in search needs
+mul-row c = let start = c .before .before .before .before in let case-lt = case-small start in search needs
 
 element-copy-out-row : tie.Need-element-copy-out-row
-element-copy-out-row c = case-small (c .before .before .before .before .before)
+element-copy-out-row c = case-small (c .before .before .before .before)
 
 mul-at : tie.Need-mul-at
-mul-at c = let start = c .before .before .before .before .before .before in let at-lt = at-small start in search needs
+mul-at c = let start = c .before .before .before .before .before in let at-lt = at-small start in search needs
 
 add-at : tie.Need-add-at
-add-at c = let start = c .before .before .before .before .before .before in let at-lt = at-small start in search needs
+add-at c = let start = c .before .before .before .before .before in let at-lt = at-small start in search needs
 
 mul-at-2 : tie.Need-mul-at-2
-mul-at-2 c = let start = c .before .before .before .before .before .before in let at-lt = at-small start in search needs
+mul-at-2 c = let start = c .before .before .before .before .before in let at-lt = at-small start in search needs
 
-make-all-requires : tie.Need-make-all-requires
-make-all-requires c κs =
-    let start = c .before .before .before .before .before .before .before .before in
+make-new-requires : tie.Need-make-new-requires
+make-new-requires c κs =
+    let start = c .before .before .before .before .before .before .before in
     let pre = start .pre in
-    let counts = pre .1 .1 .1 in
-    let w = held (c .before .before .before) in (
+    let counts = pre .1 .1 .1 in (
       pre .0,
       (
-        (pre .1 .0 .2, cell-slots start _ refl),
-        ((w .new-known, le-trans (w .new-most) (w .row-most)), (counts .0, lt-of-le-of-lt (add-le-add (counts .1) (le-refl 15)) (counts .2))),
+        (pre .1 .0 .1, case-small start, class-small start),
+        ((pre .1 .0 .2, cell-slots start _ refl), (counts .0, lt-of-le-of-lt (add-le-add (counts .1) (le-refl 15)) (counts .2))),
       ),
     )
 
@@ -73,17 +66,17 @@ name-all-requires : tie.Need-name-all-requires
 name-all-requires c κs =
     let back = c .before .before .before .before .before in
     let made = back .before in
-    let start = made .before .before .before .before .before .before .before .before .before in
+    let start = made .before .before .before .before .before .before .before .before in
     let args = start .args in
     let pre = start .pre in
     let cell = pre .0 in
-    let w = held (made .before .before .before .before) in (
+    let w = held start in (
       (w .row-known, w .row-most),
       (
         λ e he.
             slot-in-work _ (args .n) (args .x) (args .y) (args .z) e _ _ (args .slots .now) (cell-slots start _ refl) (cell .in-x) (cell .in-y)
             (pre .1 .1 .1 .0) (back .work .given) he,
-        omega (arith, made .make-all .ensures .1 .1, pre .1 .1 .1 .2),
+        omega (arith, made .make-new .ensures .1 .1, pre .1 .1 .1 .2),
       ),
     )
 
@@ -100,29 +93,28 @@ returns : tie.Need-returns
 returns c =
     let named = c .before .before in
     let made = named .before .before .before .before .before .before .before in
-    let start = made .before .before .before .before .before .before .before .before .before in
+    let start = made .before .before .before .before .before .before .before .before in
     let args = start .args in
     let pre = start .pre in
-    let w = held (made .before .before .before .before) in
+    let w = held start in
     let store = storeAt (args .n) (args .samples .now) in (
       cell-passes _ (args .x) (args .y) (args .z) _ _ _ _ (pre .1 .1 .0 .0) (pre .1 .1 .0 .1) w store (args .n) _ _ _
-          (made .make-all .ensures .0 (args .indices .now))
+          (made .make-new .ensures .0 (args .indices .now))
           (named .name-all .ensures .0 (args .n) (args .x) (args .y) (args .z) store _ (cell-slots start _ refl)),
       counts-grown _ _ _ _ _ _ _ _ _ _ w (pre .1 .1 .1 .1)
-          (made .make-all .ensures .1 .0) (made .make-all .ensures .1 .1) (named .name-all .ensures .1 .0) (named .name-all .ensures .1 .1),
+          (made .make-new .ensures .1 .0) (made .make-new .ensures .1 .1) (named .name-all .ensures .1 .0) (named .name-all .ensures .1 .1),
     )
 
 pub joined-cell-spec : {M : Type 1} → statement M
 joined-cell-spec =
     tie.close
     (tie.spec
-    new-word-requires
     mul-row
     element-copy-out-row
     mul-at
     add-at
     mul-at-2
-    make-all-requires
+    make-new-requires
     name-all-requires
     same-length
     same-length-2

@@ -1,5 +1,5 @@
 -- `joined_counts`: the cell's word in `news` has the lengths of both lists, so the row's own word is not read.
-use mathlib.Core.Path.{refl, ap}
+use mathlib.Core.Path.{refl, sym, ap}
 use Prim.Native.Nat.{ℕ, _+_}
 use lib.ListN.{getD}
 use borrow.Author.Needs.{needs}
@@ -37,9 +37,10 @@ returns c =
     let word = c .before .before in
     let counts = word .before .args .counts in
     let w = held word in
+    let made = ap (λ (k : ℕ). counts .made + k) (sym (w .new-count)) in
     let written = ap (λ (k : ℕ). counts .written + k) (w .same-indices) in (
       λ g x y z es ec. cell-counts g x y z _ _ _ _ es ec w _ _ refl written,
-      counts-grown _ _ _ _ _ _ _ _ _ _ w (word .before .pre .1 .0) refl refl refl written,
+      counts-grown _ _ _ _ _ _ _ _ _ _ w (word .before .pre .1 .0) made refl refl written,
     )
 
 pub joined-counts-spec : {M : Type 1} → statement M
