@@ -1,4 +1,3 @@
-pub mod Identities
 pub mod Sums
 pub mod SetBits
 mod Tallies

@@ -12,7 +12,8 @@ use Rattle.walk.specs.Walk.{bit}
 use Rattle.sign_words.specs.Words.{wordOf}
 use Rattle.sign_words.proofs.Words.{wordOf-lt, wordOf-of-bits}
 use Rattle.sign_words.proofs.OneBit.{and-bit, xor-bit}
-use Rattle.cell_tally.specs.Tally.{total, isSet, inMask, setIn, differ}
+use Rattle.corner_signs.specs.Signs.{differ}
+use Rattle.cell_tally.specs.Tally.{total, isSet, inMask, setIn}
 use Rattle.cell_tally.proofs.Sums.{total-same, inMask-same}
 
 -- ---- one bit

@@ -8,9 +8,10 @@ use lib.ListN.{length}
 use Rattle.walk.specs.Walk.{bit}
 use Rattle.walk.specs.Ownership.{owned, newEdges}
 use Rattle.cell_tally.specs.declared.Corners.{Corners}
-use Rattle.cell_tally.specs.Tally.{isSet, inMask, setIn, ofSigns, rowOf, insideAt, facesAt, wholeAt, oppositeAt, crossingAt, trianglesIn, newIn}
+use Rattle.corner_signs.specs.Signs.{rowOf, insideAt, facesAt, wholeAt, oppositeAt, crossingAt}
+use Rattle.cell_tally.specs.Tally.{isSet, inMask, setIn, ofSigns, trianglesIn, newIn}
 use Rattle.cell_tally.proofs.Sums.{inMask-same, inMask-add, inMask-times, inMask-le}
-use Rattle.cell_tally.proofs.Identities.{triangles-hold, new-hold, row-most}
+use Rattle.corner_signs.proofs.Identities.{triangles-hold, new-hold, row-most}
 
 -- a is what f comes to over the cells of the mask
 pub record Comes (mask : ℕ) (f : ℕ → ℕ) (a : ℕ) : Type 0 where

@@ -3,7 +3,8 @@
 // where only two opposite corners are outside, and four more where all are inside.
 ghost use mathlib.Core.Path.{_≡_};
 ghost use Prim.Native.Nat.{_+_, _*_, _≤_};
-ghost use Rattle.cell_tally.specs.Tally.{inMask, isSet, ofSigns, insideAt, facesAt, wholeAt, oppositeAt, trianglesIn, newIn, setIn};
+ghost use Rattle.corner_signs.specs.Signs.{insideAt, facesAt, wholeAt, oppositeAt};
+ghost use Rattle.cell_tally.specs.Tally.{inMask, isSet, ofSigns, trianglesIn, newIn, setIn};
 
 // A word of signs for each corner of a cell, in the order of CORNERS: bit i is that of cell i.
 pub struct Corners {

@@ -1,4 +1,5 @@
 pub mod CountWord
 pub mod CountLayer
+pub mod JoinedLayer
 pub mod Spans
 pub mod CountedMesh

@@ -1,6 +1,7 @@
 // The count of either numbering. Layers, rows and words are taken as the walk takes them; cells whose
-// corners are all alike add nothing and are passed over. A cell of the joined numbering adds what its packed
-// word says; one of the crate numbering is counted by the edges that are held in working memory.
+// corners are all alike add nothing and are passed over. A cell of the crate numbering is counted by the edges
+// that are held in working memory; in the joined numbering a cell of the lowest layer adds what its packed word
+// says, and the layers above are counted by `layer_tally`.
 ghost use mathlib.Core.Path.{_≡_};
 ghost use mathlib.Core.Bool.{cond};
 ghost use Prim.Native.Nat.{ℕ, _+_, _-_, _*_, _≤_, _<_};
@@ -15,6 +16,7 @@ ghost use Rattle.joined_edges.specs.OneCell.{classOf};
 ghost use Rattle.grid_walk.specs.Steps.{rowParity};
 ghost use Rattle.grid_walk.specs.Growth.{GrowsWithin};
 ghost use Rattle.held_bits.specs.HeldCell.{held, heldRoom, clearHeld};
+ghost use Rattle.layer_tally.specs.Layer.{Masks, Firsts};
 ghost use Rattle.grid_count.specs.Countable.{Tables, RowIn, Countable};
 ghost use Rattle.grid_count.specs.Steps.{countStep, countSteps};
 use grid_walk::Span;
@@ -165,7 +167,7 @@ fn count_row(
 }
 
 // The rows of layer z; `parity` says which of the two cache rows is read in its first row.
-fn count_layer(
+fn count_rows(
     numbering: u32,
     news: &[u64; 2048],
     names: &[u32; 256],
@@ -209,6 +211,49 @@ fn count_layer(
     reached
 }
 
+// Layer z. In the joined numbering a layer above the lowest is counted word by word.
+fn count_layer(
+    numbering: u32,
+    news: &[u64; 2048],
+    names: &[u32; 256],
+    masks: &[u32; 513],
+    firsts: &[u32; 513],
+    low: &[u32; 513],
+    high: &[u32; 513],
+    samples: &[f32],
+    n: usize,
+    z: usize,
+    parity: usize,
+    work: &mut [u32],
+    counts: Counts,
+) -> Counts
+    requires { ⌜ Tables (now news) (now names) × Masks n (now masks) × Firsts (now firsts) ⌝ }
+    requires { ⌜ (2 ≤ n) × (n ≤ 128) × (parity ≡ rowParity n z 0) ⌝ }
+    requires { ⌜ LayerWords n (now samples) z (now low) × LayerWords n (now samples) (z + 1) (now high) ⌝ }
+    requires { ⌜ Countable n (now work) 243840 counts ⌝ }
+    ensures { λ r. ⌜ held (now (work .exit)) r ≡ cellsOfLayer (countStep numbering n (insideOf n (now (samples .entry)))) n z (n - 1) (held (now (work .entry)) counts) ⌝ }
+    ensures { λ r. ⌜ (r .written ≤ counts .written + 243840) × (r .made ≤ r .written) ⌝ }
+{
+    if numbering > 0 {
+        if z > 0 {
+            return layer_tally::tally_layer(masks, firsts, low, high, n, counts);
+        }
+    }
+    count_rows(
+        numbering,
+        news,
+        names,
+        low,
+        high,
+        samples,
+        n,
+        z,
+        parity,
+        work,
+        counts,
+    )
+}
+
 // After the last row of a layer, the crate numbering's row that is read next is empty.
 fn end_layer(numbering: u32, work: &mut [u32], n: usize, row: usize)
     requires { ⌜ (n ≤ 128) × (row ≤ 1) × (heldRoom n ≤ length (now work)) ⌝ }
@@ -249,6 +294,8 @@ pub fn count_grid(numbering: u32, samples: &[f32], n: usize, work: &mut [u32]) -
 {
     let news = packed_tables::new_words();
     let names = held_bits::name_words();
+    let masks = layer_tally::masks(n);
+    let firsts = layer_tally::firsts();
     let mut low = [0u32; 513];
     let mut high = [0u32; 513];
     sign_words::fill_layer(samples, n, 0, &mut low);
@@ -265,6 +312,8 @@ pub fn count_grid(numbering: u32, samples: &[f32], n: usize, work: &mut [u32]) -
             numbering,
             &news,
             &names,
+            &masks,
+            &firsts,
             &low,
             &high,
             samples,

@@ -17,9 +17,10 @@ use Rattle.walk_models.specs.Owned.{Count, cellNew, countCell}
 use Rattle.sign_cells.specs.Cells.{cellsIn}
 use Rattle.joined_edges.proofs.NewEdges.{newEdges-length-le}
 use Rattle.cell_tally.specs.declared.Corners.{Corners}
-use Rattle.cell_tally.specs.Tally.{total, isSet, inMask, ofSigns, rowOf, trianglesIn, newIn}
+use Rattle.corner_signs.specs.Signs.{rowOf}
+use Rattle.cell_tally.specs.Tally.{total, isSet, inMask, ofSigns, trianglesIn, newIn}
 use Rattle.cell_tally.proofs.Sums.{total-same, total-times, total-mono, inMask-times}
-use Rattle.cell_tally.proofs.Identities.{row-threes}
+use Rattle.corner_signs.proofs.Identities.{row-threes}
 use Rattle.layer_tally.specs.Layer.{SignsOf, wordStep}
 
 -- a sum of which only the first m terms count

@@ -4,7 +4,8 @@ use mathlib.Core.Path.{_∙_, refl}
 use Rattle.cell_tally.proofs.SetBits.{and-set}
 use lib.Bits.{bitAnd}
 use borrow.Author.Needs.{needs}
-use Rattle.cell_tally.specs.Tally.{four, isSet}
+use Rattle.corner_signs.specs.Signs.{four}
+use Rattle.cell_tally.specs.Tally.{isSet}
 use Rattle.cell_tally.proofs.Tallies.{comes-set}
 use Rattle.cell_tally.proofs.cells_inside.Statement.{statement}
 use Rattle.cell_tally.proofs.cells_inside.Tie as tie

@@ -2,7 +2,8 @@
 use mathlib.Core.Path.{_∙_, refl}
 use native.Mathlib.Omega.{arith}
 use Rattle.cell_tally.proofs.SetBits.{and-set}
-use Rattle.cell_tally.specs.Tally.{four, isSet}
+use Rattle.corner_signs.specs.Signs.{four}
+use Rattle.cell_tally.specs.Tally.{isSet}
 use Rattle.cell_tally.proofs.Tallies.{comes-plus, comes-set}
 use lib.Bits.{bitAnd}
 use borrow.Author.Needs.{needs}

@@ -23,13 +23,13 @@ use Rattle.grid_count.proofs.count_grid.Statement.{statement}
 use Rattle.grid_count.proofs.count_grid.Tie as tie
 
 abbrev Inv-loop : tie.InvT-loop
-Inv-loop numbering samples n work₀ news names low₀ high₀ reached₀ span₀ row₀ z₀ work low high reached span row z =
+Inv-loop numbering samples n work₀ news names masks firsts low₀ high₀ reached₀ span₀ row₀ z₀ work low high reached span row z =
     Reached countIn (λ j t. endStep numbering n (insideOf n samples) j (cellsOfLayer (countStep numbering n (insideOf n samples)) n j (n - 1) t)) (held work₀ reached₀) (held work reached) z (243840 * z)
     × (z ≤ n) × (row ≡ rowParity n z 0) × LayerWords n samples z low × (length work ≡ length work₀)
     × GrowsWithin (λ k. times k (λ j t. endStep numbering n (insideOf n samples) j (cellsOfLayer (countStep numbering n (insideOf n samples)) n j (n - 1) t)) (held work₀ reached₀) .written) z span
 
 abbrev μ-loop : tie.MeasureT-loop
-μ-loop numbering samples n work₀ news names low₀ high₀ reached₀ span₀ row₀ z₀ work low high reached span row z =
+μ-loop numbering samples n work₀ news names masks firsts low₀ high₀ reached₀ span₀ row₀ z₀ work low high reached span row z =
     n - z
 
 new-words-requires : tie.Need-new-words-requires Inv-loop μ-loop
@@ -38,9 +38,15 @@ new-words-requires c κs = search needs
 name-words-requires : tie.Need-name-words-requires Inv-loop μ-loop
 name-words-requires c κs = search needs
 
+masks-requires : tie.Need-masks-requires Inv-loop μ-loop
+masks-requires c κs = search needs
+
+firsts-requires : tie.Need-firsts-requires Inv-loop μ-loop
+firsts-requires c κs = search needs
+
 fill-layer-requires : tie.Need-fill-layer-requires Inv-loop μ-loop
 fill-layer-requires c κs =
-    let pre = c .before .before .before .before .before .pre in
+    let pre = c .before .before .before .before .before .before .before .pre in
     (pre .0, pre .1, planes-le _ 1 _ (omega arith) (pre .2))
 
 loop-holds : tie.Need-loop-holds Inv-loop μ-loop
@@ -49,25 +55,25 @@ loop-holds c =
     (reached-none _ _ _ 243840 (omega arith), omega arith, ap (λ (k : ℕ). (k + 0) % 2) (sym (zero-mul _)), c .fill-layer .ensures, refl, span-none _ refl)
 
 add-fill-layer : tie.Need-add-fill-layer Inv-loop μ-loop
-add-fill-layer c = let most = c .before .before .before .before .before .before .before .before .pre .1 in omega arith
+add-fill-layer c = let most = c .before .before .before .before .before .before .before .before .before .before .pre .1 in omega arith
 
 fill-layer-requires-2 : tie.Need-fill-layer-requires-2 Inv-loop μ-loop
 fill-layer-requires-2 c κs =
-    let pre = c .before .before .before .before .before .before .before .before .before .pre in
+    let pre = c .before .before .before .before .before .before .before .before .before .before .before .pre in
     (pre .0, pre .1, planes-le _ _ _ (omega arith) (pre .2))
 
 count-layer-requires : tie.Need-count-layer-requires Inv-loop μ-loop
 count-layer-requires c κs =
-    let filled = c .before .before .before .before .before in
+    let filled = c .before .before .before .before .before .before .before in
     let at-loop = filled .before .before .before in
     let tables = at-loop .before .before .before in
-    let pre = tables .before .before .before .before .pre in
+    let pre = tables .before .before .before .before .before .before .pre in
     let most = pre .1 in
     let room = pre .3 in
     let at = at-loop .loop .inv in
     let grown = at .0 .grown in
     let same = at .4 in (
-      record { news-are = tables .before .new-words .ensures; names-are = tables .name-words .ensures },
+      (record { news-are = tables .before .before .before .new-words .ensures; names-are = tables .before .before .name-words .ensures }, tables .before .masks .ensures, tables .firsts .ensures),
       (
         (pre .0, most, at .2),
         ((at .3, filled .fill-layer2 .ensures), record { enough = omega arith; ordered = at .0 .ordered; fits = omega arith }),
@@ -75,28 +81,28 @@ count-layer-requires c κs =
     )
 
 span-after-requires : tie.Need-span-after-requires Inv-loop μ-loop
-span-after-requires c κs = let most = c .before .before .before .before .before .before .before .before .before .before .before .before .before .before .before .before .before .before .pre .1 in omega arith
+span-after-requires c κs = let most = c .before .before .before .before .before .before .before .before .before .before .before .before .before .before .before .before .before .before .before .before .before .before .pre .1 in omega arith
 
 sub-row : tie.Need-sub-row Inv-loop μ-loop
-sub-row c = let least = c .before .before .before .before .before .before .before .before .before .before .before .before .before .before .before .before .before .before .before .pre .0 in omega arith
+sub-row c = let least = c .before .before .before .before .before .before .before .before .before .before .before .before .before .before .before .before .before .before .before .before .before .before .before .pre .0 in omega arith
 
 add-row : tie.Need-add-row Inv-loop μ-loop
 add-row c =
-    let at-loop = c .before .before .before .before .before .before .before .before .before .before .before .before in
-    let most = at-loop .before .before .before .before .before .before .before .pre .1 in
+    let at-loop = c .before .before .before .before .before .before .before .before .before .before .before .before .before .before in
+    let most = at-loop .before .before .before .before .before .before .before .before .before .pre .1 in
     let row = at-loop .loop .inv .2 in
     omega arith
 
 end-layer-requires : tie.Need-end-layer-requires Inv-loop μ-loop
 end-layer-requires c κs =
-    let at-loop = c .before .before .before .before .before .before .before .before .before .before .before .before .before in
-    let pre = at-loop .before .before .before .before .before .before .before .pre in
+    let at-loop = c .before .before .before .before .before .before .before .before .before .before .before .before .before .before .before in
+    let pre = at-loop .before .before .before .before .before .before .before .before .before .pre in
     let room = pre .3 in
     let same = at-loop .loop .inv .4 in
     (pre .1, parity-le _, omega arith)
 
 add-z : tie.Need-add-z Inv-loop μ-loop
-add-z c = let most = c .before .before .before .before .before .before .before .before .before .before .before .before .before .before .before .before .before .before .before .before .before .before .before .pre .1 in omega arith
+add-z c = let most = c .before .before .before .before .before .before .before .before .before .before .before .before .before .before .before .before .before .before .before .before .before .before .before .before .before .before .before .pre .1 in omega arith
 
 loop-less : tie.Need-loop-less Inv-loop μ-loop
 loop-less c = omega arith
@@ -106,7 +112,7 @@ loop-again c =
     let ended = c .before .before in
     let spanned = ended .before .before in
     let called = spanned .before .before .before in
-    let filled = called .before .before .before .before .before .before in
+    let filled = called .before .before .before .before .before .before .before .before in
     let at = filled .before .before .before .loop .inv in
     let parity = parity-layer _ _ _ (at .2) in
     let next =
@@ -125,7 +131,7 @@ same-length c = search needs
 returns : tie.Need-returns Inv-loop μ-loop
 unfolding countSteps
 returns c =
-    let start = c .before .before .before .before .before .before .before .before in
+    let start = c .before .before .before .before .before .before .before .before .before .before in
     let most = start .pre .1 in
     let at = c .before .loop .inv .0 in
     let grown = at .grown in
@@ -140,6 +146,8 @@ count-grid-spec =
     μ-loop
     new-words-requires
     name-words-requires
+    masks-requires
+    firsts-requires
     fill-layer-requires
     loop-holds
     add-fill-layer

@@ -10,7 +10,7 @@ use Rattle.walk.proofs.EightSigns.{allEight, allEight-at}
 use Rattle.marching_cubes_tables.proofs.Tests.{both-left, both-right}
 use Rattle.marching_cubes_tables.specs.Rule.{rowEdges}
 use Rattle.marching_cubes_tables.specs.Tables.{triangleConnection}
-use Rattle.cell_tally.specs.Tally.{rowOf, insideAt, facesAt, wholeAt, oppositeAt, crossingAt}
+use Rattle.corner_signs.specs.Signs.{rowOf, insideAt, facesAt, wholeAt, oppositeAt, crossingAt}
 
 abbrev trianglesHold : Bool → Bool → Bool → Bool → Bool → Bool → Bool → Bool → Bool
 trianglesHold p q r s t u v w =
