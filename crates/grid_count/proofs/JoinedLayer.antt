@@ -8,7 +8,7 @@ use borrow.Author.Tests.{ne-eqb}
 use Rattle.walk.specs.Walk.{Inside, times}
 use Rattle.walk_models.specs.Owned.{Count, countCell, cellsOfRow, cellsOfLayer}
 use Rattle.lent_mesh.specs.declared.Counts.{Counts}
-use Rattle.joined_edges.specs.OneCell.{countOf}
+use Rattle.joined_slots.specs.OneCell.{countOf}
 use Rattle.held_bits.specs.HeldCell.{Held, held}
 use Rattle.grid_count.specs.Steps.{countIn, withCount, countStep}
 

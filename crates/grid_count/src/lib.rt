@@ -12,7 +12,7 @@ ghost use Rattle.walk_models.specs.Owned.{cellsOfRow, cellsOfLayer};
 ghost use Rattle.lent_mesh.specs.Grid.{insideOf};
 ghost use Rattle.sign_words.specs.Words.{LayerWords};
 ghost use Rattle.sign_cells.specs.Cells.{QuadOf, cellsIn, activeWord};
-ghost use Rattle.joined_edges.specs.OneCell.{classOf};
+ghost use Rattle.joined_slots.specs.OneCell.{classOf};
 ghost use Rattle.grid_walk.specs.Steps.{rowParity};
 ghost use Rattle.grid_walk.specs.Growth.{GrowsWithin};
 ghost use Rattle.held_bits.specs.HeldCell.{held, heldRoom, clearHeld};
@@ -55,7 +55,7 @@ fn count_cell(
     if numbering == 0 {
         held_bits::held_cell(names, n, x, y, case, z % 2, row, work, counts)
     } else {
-        let here = joined_edges::class_at(class, x);
+        let here = joined_slots::class_at(class, x);
         joined_edges::joined_counts(news, case, here, counts)
     }
 }
@@ -139,7 +139,7 @@ fn count_row(
     if sign_cells::outside(low, high, y) {
         return counts;
     }
-    let class = joined_edges::class_of_row(y, z);
+    let class = joined_slots::class_of_row(y, z);
     let mut reached = counts;
     let mut k: usize = 0;
     while 32 * k < n - 1 {

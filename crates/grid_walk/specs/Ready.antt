@@ -7,7 +7,7 @@ use lib.Ieee.{Float}
 use Rattle.packed_tables.specs.Packed.{rowWords, newWords}
 use Rattle.lent_mesh.specs.declared.Counts.{Counts}
 use Rattle.lent_mesh.specs.Stored.{Coordinates}
-use Rattle.joined_edges.specs.OneCell.{Slots}
+use Rattle.joined_slots.specs.OneCell.{Slots}
 
 -- the tables that are made once and lent
 pub record Tables (n z : ℕ) (rows news : List ℕ) (coordinates : List Float) (slots : List ℕ) : Type 0 where

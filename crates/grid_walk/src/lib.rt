@@ -15,7 +15,7 @@ ghost use Rattle.lent_mesh.specs.Grid.{insideOf};
 ghost use Rattle.lent_mesh.specs.Stored.{inHand, CellOf, Coordinates};
 ghost use Rattle.sign_words.specs.Words.{LayerWords};
 ghost use Rattle.sign_cells.specs.Cells.{QuadOf, cellsIn, activeWord};
-ghost use Rattle.joined_edges.specs.OneCell.{Slots, classOf};
+ghost use Rattle.joined_slots.specs.OneCell.{Slots, classOf};
 ghost use Rattle.grid_walk.specs.Steps.{layerParity, rowParity, cellStep, walkSteps};
 ghost use Rattle.grid_walk.specs.Growth.{GrowsWithin};
 ghost use Rattle.grid_walk.specs.Ready.{Tables, RowOf, LayerOf, Room};
@@ -130,7 +130,7 @@ fn word_cells(
         let i = u32::trailing_zeros(rest);
         let x = 32 * k + (i as usize);
         let case = sign_cells::case_of(quad, i);
-        let here = joined_edges::class_at(class, x);
+        let here = joined_slots::class_at(class, x);
         reached = one_cell(
             numbering,
             rows,
@@ -185,7 +185,7 @@ fn row_cells(
     if sign_cells::outside(low, high, y) {
         return counts;
     }
-    let class = joined_edges::class_of_row(y, z);
+    let class = joined_slots::class_of_row(y, z);
     let mut reached = counts;
     let mut k: usize = 0;
     while 32 * k < n - 1 {
@@ -241,7 +241,7 @@ fn layer_cells(
         ≡ cellsOfLayer (cellStep numbering n (now (samples .entry))) n z (n - 1) (inHand (now (work .entry)) (now (vertices .entry)) (now (indices .entry)) counts) ⌝ }
     ensures { λ r. ⌜ (r .written ≤ counts .written + 243840) × (r .made ≤ r .written) ⌝ }
 {
-    let slots = joined_edges::slots(n, z);
+    let slots = joined_slots::slots(n, z);
     let mut reached = counts;
     let mut row = parity;
     let mut y: usize = 0;

@@ -16,7 +16,7 @@ use Rattle.walk_models.specs.Owned.{cellNew, makeEdge, nameEdge, ownedCell, Cou
 use Rattle.packed_tables.specs.Unpacked.{Edges}
 use Rattle.packed_tables.specs.Packed.{ownedIn, rowWords, newWords}
 use Rattle.packed_tables.proofs.Words.{inThrees, oneByOne, indicesOf, row-word, new-word, new-word-row}
-use Rattle.joined_edges.specs.OneCell.{each, classOf}
+use Rattle.joined_slots.specs.OneCell.{each, classOf}
 use Rattle.joined_edges.proofs.PackedSteps.{unpacked-length}
 use Rattle.joined_edges.proofs.NewEdges.{edges-of, newEdges-edges, newEdges-length-le}
 

@@ -15,9 +15,10 @@ use Rattle.packed_tables.proofs.Marks.{Marks, marks}
 use Rattle.lent_mesh.specs.Grid.{positionAt}
 use Rattle.lent_mesh.specs.Stored.{storeAt}
 use Rattle.lent_mesh.proofs.Points.{putPoint-exchange}
-use Rattle.joined_edges.specs.OneCell.{each, makeRanked, hand}
+use Rattle.joined_slots.specs.OneCell.{each}
+use Rattle.inner_cells.specs.Ranked.{makeRanked, hand}
 use Rattle.joined_edges.proofs.PackedSteps.{unpacked-length}
-use Rattle.joined_edges.proofs.RankedEdges.{marked-made}
+use Rattle.inner_cells.proofs.RankedEdges.{marked-made}
 use Rattle.joined_edges.proofs.CellWords.{Words}
 
 -- as the code reads the word

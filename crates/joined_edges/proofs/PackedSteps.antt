@@ -9,7 +9,8 @@ use Rattle.walk.specs.Edges.{edgeOf}
 use Rattle.walk.proofs.OwnedCells.{fold, times-fold}
 use Rattle.walk_models.specs.Owned.{edgeVisit, slot, makeEdge, nameEdge}
 use Rattle.packed_tables.specs.Unpacked.{unpacked, Edges}
-use Rattle.joined_edges.specs.OneCell.{SlotsFrom, each, hand}
+use Rattle.joined_slots.specs.OneCell.{SlotsFrom, each}
+use Rattle.inner_cells.specs.Ranked.{hand}
 
 -- ---- step by step
 

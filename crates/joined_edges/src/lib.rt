@@ -1,7 +1,5 @@
 // One cell of the joined walk, in lent memory: its new edges are numbered and their vertices put, then
 // the numbers of its row's edges are written as indices. Both lists come packed, a word for a cell.
-mod inner;
-
 ghost use mathlib.Core.Path.{_≡_};
 ghost use mathlib.Core.List.{List};
 ghost use Prim.Native.Nat.{ℕ, _+_, _*_, _%_, _^_, _≤_, _<_};
@@ -16,32 +14,8 @@ ghost use Rattle.packed_tables.specs.Unpacked.{unpacked, Edges};
 ghost use Rattle.packed_tables.specs.Packed.{ownedIn, rowWords, newWords};
 ghost use Rattle.lent_mesh.specs.Grid.{insideOf};
 ghost use Rattle.lent_mesh.specs.Stored.{storeAt, inHand, CellOf, Coordinates};
-ghost use Rattle.joined_edges.specs.OneCell.{Slots, SlotsFrom, each, classOf, countOf};
+ghost use Rattle.joined_slots.specs.OneCell.{Slots, SlotsFrom, each, classOf, countOf};
 use lent_mesh::Counts;
-
-// Where the twelve edges of a cell of layer z have their numbers, from the cell's own place on.
-pub fn slots(n: usize, z: usize) -> [usize; 12]
-    requires { ⌜ n ≤ 128 ⌝ }
-    ensures { λ r. ⌜ Slots n z r ⌝ }
-{
-    let here = z % 2;
-    let above = 1 - here;
-    let row = 8 * n;
-    [
-        here,
-        10 + here,
-        row + here,
-        2 + here,
-        above,
-        10 + above,
-        row + above,
-        2 + above,
-        4,
-        12,
-        row + 12,
-        row + 4,
-    ]
-}
 
 // The next numbers go to the edges of the list, each with its vertex.
 fn make_all(
@@ -163,7 +137,7 @@ fn make_new(
 {
     let word = new_word(news, case, class);
     if class == 0 {
-        inner::make_inner(
+        inner_cells::make_inner(
             samples,
             coordinates,
             slots,
@@ -267,25 +241,4 @@ pub fn joined_counts(news: &[u64; 2048], case: usize, class: usize, counts: Coun
         made: counts.made + ((fresh >> 60) as u32),
         written: counts.written + 3 * (((fresh >> 56) % 16) as u32),
     }
-}
-
-fn is_zero(number: usize) -> usize
-    ensures { λ r. ⌜ (r ≡ bit (eqb number 0)) × (r ≤ 1) ⌝ }
-{
-    if number == 0 { 1 } else { 0 }
-}
-
-// The class of the cells of a row but the first.
-pub fn class_of_row(y: usize, z: usize) -> usize
-    ensures { λ r. ⌜ (r ≡ classOf 1 y z) × (r ≤ 6) ⌝ }
-{
-    2 * is_zero(y) + 4 * is_zero(z)
-}
-
-// The class of the cell x, from that of the row's cells but the first.
-pub fn class_at(class: usize, x: usize) -> usize
-    requires { ⌜ class ≤ 6 ⌝ }
-    ensures { λ r. ⌜ ((y z : ℕ) → class ≡ classOf 1 y z → r ≡ classOf x y z) ⌝ }
-{
-    if x == 0 { class + 1 } else { class }
 }

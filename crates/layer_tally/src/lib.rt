@@ -5,7 +5,7 @@ ghost use Prim.Native.Nat.{ℕ, _+_, _-_, _*_, _^_, _≤_, _<_};
 ghost use lib.Dec.{ltb};
 ghost use lib.ListN.{getD};
 ghost use Rattle.cell_tally.specs.Tally.{isSet};
-ghost use Rattle.joined_edges.specs.OneCell.{countOf};
+ghost use Rattle.joined_slots.specs.OneCell.{countOf};
 ghost use Rattle.layer_tally.specs.Layer.{Masks, Firsts, NextFrom, CornersFrom, WordsCounted, RowsOutside, LayerCounted};
 use cell_tally::Corners;
 use lent_mesh::Counts;

@@ -13,8 +13,7 @@ returns c =
     let start = c .before .before .before .before .before in
     let args = start .args in
     let words = start .pre .1 .1 .0 in
-    let counted = c .tally-layer .ensures .0 (args .samples .now) (args .z) (words .0) (words .1) (search needs) in
-    (
+    let counted = c .tally-layer .ensures .0 (args .samples .now) (args .z) (words .0) (words .1) (search needs) in (
       joined-layer (args .numbering) (args .n) (insideOf (args .n) (args .samples .now)) (args .z) (args .work .now) (args .counts) (c .tally-layer .result) (search needs) counted,
       c .tally-layer .ensures .1,
     )

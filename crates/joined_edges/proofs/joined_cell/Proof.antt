@@ -7,8 +7,8 @@ use lib.ListN.{getD}
 use borrow.Author.Needs.{needs}
 use Rattle.lent_mesh.specs.Stored.{storeAt}
 use Rattle.lent_mesh.proofs.Places.{row-small}
-use Rattle.joined_edges.specs.OneCell.{SlotsFrom}
-use Rattle.joined_edges.proofs.TwelveSlots.{slots-from, slot-in-work}
+use Rattle.joined_slots.specs.OneCell.{SlotsFrom}
+use Rattle.joined_slots.proofs.TwelveSlots.{slots-from, slot-in-work}
 use Rattle.joined_edges.proofs.CellWords.{Words, words, case-lt, class-lt, counts-grown, cell-passes}
 use Rattle.joined_edges.proofs.joined_cell.Statement.{statement}
 use Rattle.joined_edges.proofs.joined_cell.Tie as tie

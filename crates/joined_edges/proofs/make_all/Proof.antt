@@ -8,8 +8,9 @@ use borrow.Author.Needs.{needs}
 use Rattle.walk_models.specs.Owned.{makeEdge}
 use Rattle.packed_tables.specs.Unpacked.{unpacked, Edges}
 use Rattle.lent_mesh.specs.Stored.{storeAt}
-use Rattle.joined_edges.specs.OneCell.{each, hand}
-use Rattle.joined_edges.proofs.TwelveSlots.{slot-in-work}
+use Rattle.joined_slots.specs.OneCell.{each}
+use Rattle.inner_cells.specs.Ranked.{hand}
+use Rattle.joined_slots.proofs.TwelveSlots.{slot-in-work}
 use Rattle.joined_edges.proofs.PackedSteps.{first-edge, later-edges, each-none, make-next}
 use Rattle.joined_edges.proofs.make_all.Statement.{statement}
 use Rattle.joined_edges.proofs.make_all.Tie as tie

@@ -8,7 +8,7 @@ use borrow.Author.Needs.{needs}
 use Rattle.walk_models.specs.Owned.{makeEdge}
 use Rattle.packed_tables.specs.Packed.{rowWords}
 use Rattle.lent_mesh.specs.Stored.{storeAt, inHand}
-use Rattle.joined_edges.specs.OneCell.{each}
+use Rattle.joined_slots.specs.OneCell.{each}
 use Rattle.joined_edges.proofs.CellWords.{Words, words}
 use Rattle.joined_edges.proofs.InnerCells.{inner-marks, inner-made}
 use Rattle.joined_edges.proofs.make_new.Statement.{statement}

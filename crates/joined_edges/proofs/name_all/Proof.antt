@@ -9,7 +9,8 @@ use borrow.Author.Needs.{needs}
 use Rattle.walk.specs.Walk.{Visit}
 use Rattle.walk_models.specs.Owned.{nameEdge}
 use Rattle.packed_tables.specs.Unpacked.{unpacked, Edges}
-use Rattle.joined_edges.specs.OneCell.{SlotsFrom, each, hand}
+use Rattle.joined_slots.specs.OneCell.{SlotsFrom, each}
+use Rattle.inner_cells.specs.Ranked.{hand}
 use Rattle.joined_edges.proofs.PackedSteps.{three-edges, each-none, name-three}
 use Rattle.joined_edges.proofs.name_all.Statement.{statement}
 use Rattle.joined_edges.proofs.name_all.Tie as tie

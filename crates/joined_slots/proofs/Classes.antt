@@ -6,7 +6,7 @@ use native.Mathlib.Omega.{arith}
 use lib.Dec.{eqb}
 use borrow.Author.Tests.{eq-eqb, ne-eqb}
 use Rattle.walk.specs.Walk.{bit}
-use Rattle.joined_edges.specs.OneCell.{classOf}
+use Rattle.joined_slots.specs.OneCell.{classOf}
 
 pub class-first : (class x y z : ℕ) → x ≡ 0 → class ≡ classOf 1 y z → class + 1 ≡ classOf x y z
 class-first class x y z h e = rw (eq-eqb x 0 h) (omega arith)

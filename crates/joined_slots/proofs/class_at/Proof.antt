@@ -1,8 +1,8 @@
 -- `class_at`: the first cell of the row, or another.
 use borrow.Author.Needs.{needs}
-use Rattle.joined_edges.proofs.Classes.{class-first, class-later}
-use Rattle.joined_edges.proofs.class_at.Statement.{statement}
-use Rattle.joined_edges.proofs.class_at.Tie as tie
+use Rattle.joined_slots.proofs.Classes.{class-first, class-later}
+use Rattle.joined_slots.proofs.class_at.Statement.{statement}
+use Rattle.joined_slots.proofs.class_at.Tie as tie
 
 add-result : tie.Need-add-result
 add-result c = search needs

@@ -5,10 +5,10 @@ use native.Mathlib.Omega.{arith}
 use borrow.Author.Needs.{needs}
 use Rattle.packed_tables.specs.Unpacked.{marked, upperMarked}
 use Rattle.lent_mesh.specs.Stored.{storeAt, inHand}
-use Rattle.joined_edges.specs.OneCell.{makeRanked}
-use Rattle.joined_edges.proofs.RankedEdges.{each-both}
-use Rattle.joined_edges.proofs.inner.make_inner.Statement.{statement}
-use Rattle.joined_edges.proofs.inner.make_inner.Tie as tie
+use Rattle.inner_cells.specs.Ranked.{makeRanked}
+use Rattle.inner_cells.proofs.RankedEdges.{each-both}
+use Rattle.inner_cells.proofs.make_inner.Statement.{statement}
+use Rattle.inner_cells.proofs.make_inner.Tie as tie
 
 cast-grown : tie.Need-cast-grown
 cast-grown c = search needs

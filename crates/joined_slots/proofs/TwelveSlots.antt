@@ -8,7 +8,7 @@ use Rattle.marching_cubes_tables.specs.Tables.{corners, edgeConnection}
 use Rattle.walk.specs.Edges.{axisOf, lowOffset, edgeOf}
 use Rattle.walk_models.specs.Owned.{edgeVisit, slot}
 use Rattle.walk_models.proofs.Window.{edgeOf-live, slot-lt}
-use Rattle.joined_edges.specs.OneCell.{Slots, SlotsFrom}
+use Rattle.joined_slots.specs.OneCell.{Slots, SlotsFrom}
 
 abbrev twelve : ℕ → ℕ → List ℕ
 twelve n z =

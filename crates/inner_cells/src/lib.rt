@@ -6,7 +6,8 @@ ghost use Prim.Native.Nat.{ℕ, _+_, _*_, _/_, _^_, _≤_, _<_};
 ghost use lib.ListN.{length};
 ghost use Rattle.packed_tables.specs.Unpacked.{marked, upperMarked, innerMarked};
 ghost use Rattle.lent_mesh.specs.Stored.{storeAt, inHand, CellOf, Coordinates};
-ghost use Rattle.joined_edges.specs.OneCell.{SlotsFrom, each, makeRanked, hand};
+ghost use Rattle.joined_slots.specs.OneCell.{SlotsFrom, each};
+ghost use Rattle.inner_cells.specs.Ranked.{makeRanked, hand};
 use lent_mesh::Counts;
 
 // An edge with a mark takes the number that its mark says, counted from `made`, and its vertex is put; one
@@ -97,7 +98,7 @@ fn make_upper(
 }
 
 // All three, in this order whatever that of the list is.
-pub(crate) fn make_inner(
+pub fn make_inner(
     samples: &[f32],
     coordinates: &[f32; 129],
     slots: &[usize; 12],

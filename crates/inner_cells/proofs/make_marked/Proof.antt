@@ -5,10 +5,10 @@ use native.Mathlib.Omega.{arith}
 use lib.ListN.{length, getD}
 use borrow.Author.Needs.{needs}
 use Rattle.lent_mesh.specs.Stored.{storeAt}
-use Rattle.joined_edges.proofs.TwelveSlots.{slot-in-work}
-use Rattle.joined_edges.proofs.RankedEdges.{marked-absent, marked-present}
-use Rattle.joined_edges.proofs.inner.make_marked.Statement.{statement}
-use Rattle.joined_edges.proofs.inner.make_marked.Tie as tie
+use Rattle.joined_slots.proofs.TwelveSlots.{slot-in-work}
+use Rattle.inner_cells.proofs.RankedEdges.{marked-absent, marked-present}
+use Rattle.inner_cells.proofs.make_marked.Statement.{statement}
+use Rattle.inner_cells.proofs.make_marked.Tie as tie
 
 -- the place of the edge's number
 place-lt : (c : tie.Start) → c .args .at + getD (c .args .slots .now) (c .args .edge) 0 < length (c .args .work .now)

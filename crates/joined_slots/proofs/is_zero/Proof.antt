@@ -1,8 +1,8 @@
 -- `is_zero`: the test as a number.
 use native.Mathlib.Omega.{arith}
 use borrow.Author.Tests.{eq-eqb, ne-eqb}
-use Rattle.joined_edges.proofs.is_zero.Statement.{statement}
-use Rattle.joined_edges.proofs.is_zero.Tie as tie
+use Rattle.joined_slots.proofs.is_zero.Statement.{statement}
+use Rattle.joined_slots.proofs.is_zero.Tie as tie
 
 returns : tie.Need-returns
 returns c = (rw (eq-eqb _ 0 (c .if1 .taken)), omega arith)

@@ -1,9 +1,9 @@
 -- `slots`: a list of twelve.
 use mathlib.Core.Path.{refl}
 use borrow.Author.Needs.{needs}
-use Rattle.joined_edges.proofs.TwelveSlots.{slots-hold}
-use Rattle.joined_edges.proofs.slots.Statement.{statement}
-use Rattle.joined_edges.proofs.slots.Tie as tie
+use Rattle.joined_slots.proofs.TwelveSlots.{slots-hold}
+use Rattle.joined_slots.proofs.slots.Statement.{statement}
+use Rattle.joined_slots.proofs.slots.Tie as tie
 
 sub-above : tie.Need-sub-above
 sub-above c = search needs

@@ -5,10 +5,10 @@ use native.Mathlib.Omega.{arith}
 use borrow.Author.Needs.{needs}
 use Rattle.packed_tables.specs.Unpacked.{marked}
 use Rattle.lent_mesh.specs.Stored.{storeAt}
-use Rattle.joined_edges.specs.OneCell.{makeRanked, hand}
-use Rattle.joined_edges.proofs.RankedEdges.{each-both}
-use Rattle.joined_edges.proofs.inner.make_upper.Statement.{statement}
-use Rattle.joined_edges.proofs.inner.make_upper.Tie as tie
+use Rattle.inner_cells.specs.Ranked.{makeRanked, hand}
+use Rattle.inner_cells.proofs.RankedEdges.{each-both}
+use Rattle.inner_cells.proofs.make_upper.Statement.{statement}
+use Rattle.inner_cells.proofs.make_upper.Tie as tie
 
 cast-first : tie.Need-cast-first
 cast-first c = search needs

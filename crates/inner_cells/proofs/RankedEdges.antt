@@ -19,7 +19,8 @@ use Rattle.walk_models.specs.Owned.{edgeVisit, slot, makeEdge}
 use Rattle.walk_models.proofs.AnyOrder.{rankedFrom, ranked, apart, sorted, allFree, fold-sorted}
 use Rattle.walk_models.proofs.Window.{Live, edgeOf-live, slot-injective}
 use Rattle.packed_tables.specs.Unpacked.{Edges, marked}
-use Rattle.joined_edges.specs.OneCell.{SlotsFrom, each, makeRanked, hand}
+use Rattle.joined_slots.specs.OneCell.{SlotsFrom, each}
+use Rattle.inner_cells.specs.Ranked.{makeRanked, hand}
 
 -- ---- two lists, one after the other
 

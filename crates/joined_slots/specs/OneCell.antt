@@ -2,33 +2,17 @@
 -- which the contracts of the walk's functions cite; the public contracts do not, and nobody need believe it.
 use mathlib.Core.Path.{_≡_}
 use mathlib.Core.List.{List}
-use Prim.Native.Nat.{ℕ, _+_, _*_, _/_, _%_, _<_}
+use Prim.Native.Nat.{ℕ, _+_, _*_, _<_}
 use lib.Dec.{eqb}
-use lib.ListN.{length, getD, set}
-use Rattle.walk.specs.Walk.{Visit, bit, times}
+use lib.ListN.{length, getD}
+use Rattle.walk.specs.Walk.{bit, times}
 use Rattle.walk.specs.Edges.{edgeOf}
-use Rattle.walk_models.specs.Lent.{Lent}
 use Rattle.walk_models.specs.Owned.{Count, edgeVisit, slot}
 use Rattle.lent_mesh.specs.declared.Counts.{Counts}
 
 -- a step for each entry of the list, from the first
 unfoldable pub each : {S : Type 0} → (ℕ → S → S) → List ℕ → S → S
 each step es s = times (length es) (λ j t. step (getD es j 0) t) s
-
--- The edge p % 16 is made with the number that is p / 16 after `made`. None is counted, so the order does not matter.
-unfoldable pub makeRanked : {B : Type 0} → (Visit → ℕ → B → B) → ℕ → ℕ → ℕ → ℕ → ℕ → Lent (List ℕ) B → Lent (List ℕ) B
-makeRanked store n z y x p w =
-    record {
-      memory = set (w .memory) (slot n (edgeOf (edgeVisit x y z (p % 16)))) (w .made + p / 16);
-      vertices = store (edgeVisit x y z (p % 16)) (w .made + p / 16) (w .vertices);
-      indices = w .indices;
-      made = w .made;
-      written = w .written;
-    }
-
--- what a cell has in hand, its two counts apart
-abbrev pub hand : {B : Type 0} → List ℕ → B → List ℕ → ℕ → ℕ → Lent (List ℕ) B
-hand work b l made written = record { memory = work; vertices = b; indices = l; made = made; written = written }
 
 -- the slots of the edges of the cell (x, y, z), from the place `at` on
 abbrev pub SlotsFrom : ℕ → List ℕ → ℕ → ℕ → ℕ → ℕ → Type 0

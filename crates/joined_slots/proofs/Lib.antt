@@ -1,0 +1,2 @@
+pub mod TwelveSlots
+pub mod Classes
