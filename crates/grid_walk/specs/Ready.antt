@@ -5,13 +5,15 @@ use Prim.Native.Nat.{ℕ, _+_, _*_, _^_, _≤_, _<_}
 use lib.ListN.{length}
 use lib.Ieee.{Float}
 use Rattle.packed_tables.specs.Packed.{rowWords, newWords}
+use Rattle.packed_tables.specs.Regular.{regularWords}
 use Rattle.lent_mesh.specs.declared.Counts.{Counts}
 use Rattle.lent_mesh.specs.Stored.{Coordinates}
 use Rattle.joined_slots.specs.OneCell.{Slots}
 
 -- the tables that are made once and lent
-pub record Tables (n z : ℕ) (rows news : List ℕ) (coordinates : List Float) (slots : List ℕ) : Type 0 where
+pub record Tables (n z : ℕ) (rows regulars news : List ℕ) (coordinates : List Float) (slots : List ℕ) : Type 0 where
   pub rows-are : rows ≡ rowWords
+  pub regulars-are : regulars ≡ regularWords
   pub news-are : news ≡ newWords
   pub coordinates-are : Coordinates n coordinates
   pub slots-are : Slots n z slots

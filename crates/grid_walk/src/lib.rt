@@ -11,6 +11,7 @@ ghost use Rattle.walk_models.specs.Owned.{cellsOfRow, cellsOfLayer};
 ghost use Rattle.walk_models.specs.Lent.{untouched};
 ghost use Rattle.walk_models.specs.CacheMemory.{clearRow};
 ghost use Rattle.packed_tables.specs.Packed.{rowWords, newWords};
+ghost use Rattle.packed_tables.specs.Regular.{regularWords};
 ghost use Rattle.lent_mesh.specs.Grid.{insideOf};
 ghost use Rattle.lent_mesh.specs.Stored.{inHand, CellOf, Coordinates};
 ghost use Rattle.sign_words.specs.Words.{LayerWords};
@@ -32,6 +33,7 @@ pub struct Span {
 fn one_cell(
     numbering: u32,
     rows: &[u64; 256],
+    regulars: &[u64; 256],
     news: &[u64; 2048],
     coordinates: &[f32; 129],
     slots: &[usize; 12],
@@ -48,7 +50,7 @@ fn one_cell(
     indices: &mut [u32],
     counts: Counts,
 ) -> Counts
-    requires { ⌜ Tables n z (now rows) (now news) (now coordinates) (now slots) ⌝ }
+    requires { ⌜ Tables n z (now rows) (now regulars) (now news) (now coordinates) (now slots) ⌝ }
     requires { ⌜ CellOf (now samples) n x y z ⌝ }
     requires { ⌜ (case ≡ signs (insideOf n (now samples)) x y z) × (class ≡ classOf x y z) × (row ≡ rowParity n z y) ⌝ }
     requires { ⌜ Room n (now work) 15 counts ⌝ }
@@ -57,8 +59,9 @@ fn one_cell(
     ensures { λ r. ⌜ (r .written ≤ counts .written + 15) × (r .made ≤ r .written) ⌝ }
 {
     if numbering == 0 {
-        index_cache::crate_cell(
+        crate_cells::crate_cell(
             rows,
+            regulars,
             samples,
             coordinates,
             n,
@@ -98,6 +101,7 @@ fn one_cell(
 fn word_cells(
     numbering: u32,
     rows: &[u64; 256],
+    regulars: &[u64; 256],
     news: &[u64; 2048],
     coordinates: &[f32; 129],
     slots: &[usize; 12],
@@ -115,7 +119,7 @@ fn word_cells(
     indices: &mut [u32],
     counts: Counts,
 ) -> Counts
-    requires { ⌜ Tables n z (now rows) (now news) (now coordinates) (now slots) ⌝ }
+    requires { ⌜ Tables n z (now rows) (now regulars) (now news) (now coordinates) (now slots) ⌝ }
     requires { ⌜ RowOf (now samples) n y z ⌝ }
     requires { ⌜ QuadOf n (now samples) y z k quad × (mask ≡ activeWord n (now samples) y z k) × (32 * k < n - 1) ⌝ }
     requires { ⌜ (class ≡ classOf 1 y z) × (class ≤ 6) × (row ≡ rowParity n z y) ⌝ }
@@ -134,6 +138,7 @@ fn word_cells(
         reached = one_cell(
             numbering,
             rows,
+            regulars,
             news,
             coordinates,
             slots,
@@ -159,6 +164,7 @@ fn word_cells(
 fn row_cells(
     numbering: u32,
     rows: &[u64; 256],
+    regulars: &[u64; 256],
     news: &[u64; 2048],
     coordinates: &[f32; 129],
     slots: &[usize; 12],
@@ -174,7 +180,7 @@ fn row_cells(
     indices: &mut [u32],
     counts: Counts,
 ) -> Counts
-    requires { ⌜ Tables n z (now rows) (now news) (now coordinates) (now slots) ⌝ }
+    requires { ⌜ Tables n z (now rows) (now regulars) (now news) (now coordinates) (now slots) ⌝ }
     requires { ⌜ RowOf (now samples) n y z × (row ≡ rowParity n z y) ⌝ }
     requires { ⌜ LayerWords n (now samples) z (now low) × LayerWords n (now samples) (z + 1) (now high) ⌝ }
     requires { ⌜ Room n (now work) 1920 counts ⌝ }
@@ -194,6 +200,7 @@ fn row_cells(
         reached = word_cells(
             numbering,
             rows,
+            regulars,
             news,
             coordinates,
             slots,
@@ -220,6 +227,7 @@ fn row_cells(
 fn layer_cells(
     numbering: u32,
     rows: &[u64; 256],
+    regulars: &[u64; 256],
     news: &[u64; 2048],
     coordinates: &[f32; 129],
     low: &[u32; 513],
@@ -233,7 +241,7 @@ fn layer_cells(
     indices: &mut [u32],
     counts: Counts,
 ) -> Counts
-    requires { ⌜ (now rows ≡ rowWords) × (now news ≡ newWords) × Coordinates n (now coordinates) ⌝ }
+    requires { ⌜ (now rows ≡ rowWords) × (now regulars ≡ regularWords) × (now news ≡ newWords) × Coordinates n (now coordinates) ⌝ }
     requires { ⌜ LayerOf (now samples) n z × (parity ≡ rowParity n z 0) ⌝ }
     requires { ⌜ LayerWords n (now samples) z (now low) × LayerWords n (now samples) (z + 1) (now high) ⌝ }
     requires { ⌜ Room n (now work) 243840 counts ⌝ }
@@ -249,6 +257,7 @@ fn layer_cells(
         reached = row_cells(
             numbering,
             rows,
+            regulars,
             news,
             coordinates,
             &slots,
@@ -298,6 +307,7 @@ pub fn walk(
     ensures { λ r. ⌜ (r .written ≤ 31211520) × (r .made ≤ r .written) ⌝ }
 {
     let rows = packed_tables::row_words();
+    let regulars = packed_tables::regular_words();
     let news = packed_tables::new_words();
     let coordinates = lent_mesh::coordinates(n);
     let mut low = [0u32; 513];
@@ -314,6 +324,7 @@ pub fn walk(
         reached = layer_cells(
             numbering,
             &rows,
+            &regulars,
             &news,
             &coordinates,
             &low,

@@ -14,7 +14,7 @@ use Rattle.marching_cubes_tables.proofs.Rows.{every, every-at}
 use Rattle.walk.specs.Walk.{bit}
 use Rattle.walk.proofs.Below.{allBelow, allBelow-at}
 use Rattle.packed_tables.specs.Unpacked.{Edges}
-use Rattle.index_cache.proofs.PackedVisits.{edges-of-each}
+use Rattle.packed_tables.proofs.PackedEdges.{edges-of-each}
 use Rattle.held_bits.specs.Names.{nameWords}
 use Rattle.held_bits.proofs.EdgeSets.{edgeAt, Has}
 

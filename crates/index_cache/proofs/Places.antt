@@ -11,7 +11,7 @@ use Rattle.walk.specs.Walk.{times}
 use Rattle.walk.specs.Cache.{inLayer, putColumn}
 use Rattle.walk.proofs.Rank.{place-lt}
 use Rattle.walk_models.specs.CacheMemory.{putLayer, putRow, clearRow}
-use Rattle.index_cache.specs.CellMemory.{foundAll}
+use Rattle.index_cache.specs.Found.{foundAll}
 
 -- a place of a layer, and how many there are
 pub place-below : (n x y l : ℕ) → (n ≤ 128) × (x < n) × (y < n) × (l ≤ 1) → (y * n + x < n * n) × (n * n ≤ 16384)

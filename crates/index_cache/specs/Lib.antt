@@ -1,1 +1,1 @@
-pub mod CellMemory
+pub mod Found

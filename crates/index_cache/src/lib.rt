@@ -1,22 +1,13 @@
-// The index cache of index_cache.rs in lent working memory, and one cell of the crate numbering over it.
-// What is strange in the Rust is kept: number 0 reads as absent. `cells` is left out, for what it holds
-// is never found.
+// The index cache of index_cache.rs in lent working memory. What is strange in the Rust is kept: number
+// 0 reads as absent. `cells` is left out, for what it holds is never found.
 ghost use mathlib.Core.Path.{_≡_};
 ghost use mathlib.Core.Bool.{cond};
-ghost use Prim.Native.Nat.{_+_, _-_, _*_, _/_, _%_, _^_, _≤_, _<_};
+ghost use Prim.Native.Nat.{_+_, _-_, _*_, _^_, _≤_, _<_};
 ghost use lib.Dec.{ltb};
 ghost use lib.ListN.{length, set};
-ghost use Rattle.walk.specs.Walk.{cell, signs};
 ghost use Rattle.walk.specs.Cache.{inLayer, putColumn};
-ghost use Rattle.walk_models.specs.Lent.{lentHooks};
-ghost use Rattle.walk_models.specs.CacheMemory.{putLayer, putRow, clearRow, crateMemory};
-ghost use Rattle.packed_tables.specs.Packed.{rowWords};
-ghost use Rattle.packed_tables.specs.Unpacked.{unpacked, Edges};
-ghost use Rattle.lent_mesh.specs.declared.Counts.{Counts};
-ghost use Rattle.lent_mesh.specs.Grid.{insideOf};
-ghost use Rattle.lent_mesh.specs.Stored.{storeAt, inHand, CellOf, Coordinates};
-ghost use Rattle.index_cache.specs.CellMemory.{CacheRoom, atBorder, inCell, foundAll, heldVisit, heldEdges};
-use lent_mesh::Counts;
+ghost use Rattle.walk_models.specs.CacheMemory.{putLayer, putRow, clearRow};
+ghost use Rattle.index_cache.specs.Found.{CacheRoom, foundAll};
 
 // Where the four words of the place (x, y) in a layer begin.
 fn layer_place(n: usize, x: usize, y: usize, layer: usize) -> usize
@@ -90,7 +81,7 @@ pub fn put(
 }
 
 // What `get` finds for each edge before it turns to `current_cell`.
-fn found(work: &[u32], n: usize, x: usize, y: usize, layer: usize, row: usize) -> [u32; 12]
+pub fn found(work: &[u32], n: usize, x: usize, y: usize, layer: usize, row: usize) -> [u32; 12]
     requires { ⌜ CacheRoom n layer row (now work) ⌝ }
     requires { ⌜ (x < n) × (y < n) ⌝ }
     ensures { λ r. ⌜ r ≡ foundAll n x y layer row (now (work .entry)) ⌝ }
@@ -132,157 +123,4 @@ pub fn clear_row(work: &mut [u32], n: usize, row: usize)
         clear_three(work, row_place(n, x, row));
         x += 1;
     }
-}
-
-// One visit: the number that `current` has is written as an index, or the next vertex is made. `current`
-// begins as `found`, for a cell puts nothing into the layer and the row that it reads.
-fn visit(
-    samples: &[f32],
-    coordinates: &[f32; 129],
-    n: usize,
-    x: usize,
-    y: usize,
-    z: usize,
-    layer: usize,
-    row: usize,
-    edge: usize,
-    current: &mut [u32; 12],
-    work: &mut [u32],
-    vertices: &mut [f32],
-    indices: &mut [u32],
-    counts: Counts,
-) -> Counts
-    requires { ⌜ CellOf (now samples) n x y z ⌝ }
-    requires { ⌜ CacheRoom n layer row (now work) ⌝ }
-    requires { ⌜ (edge < 12) × Coordinates n (now coordinates) ⌝ }
-    requires { ⌜ (counts .made + 1 < 2 ^ 32) × (counts .written + 1 < 2 ^ 32) ⌝ }
-    ensures { λ r. ⌜ inHand (inCell (now (work .exit)) layer row (now (current .exit))) (now (vertices .exit)) (now (indices .exit)) r ≡ heldVisit n (now (samples .entry)) x y z edge (inHand (inCell (now (work .entry)) layer row (now (current .entry))) (now (vertices .entry)) (now (indices .entry)) counts) ⌝ }
-    ensures { λ r. ⌜ (r .written ≡ counts .written + 1) × (r .made ≤ counts .made + 1) ⌝ }
-{
-    let number = current[edge];
-    if number > 0 {
-        lent_mesh::put_index(indices, counts.written, number);
-        return Counts {
-            made: counts.made,
-            written: counts.written + 1,
-        };
-    }
-    put(work, n, x, y, layer, row, edge, counts.made);
-    current[edge] = counts.made;
-    lent_mesh::put_vertex(
-        samples,
-        coordinates,
-        n,
-        x,
-        y,
-        z,
-        edge,
-        vertices,
-        counts.made,
-    );
-    lent_mesh::put_index(indices, counts.written, counts.made);
-    Counts {
-        made: counts.made + 1,
-        written: counts.written + 1,
-    }
-}
-
-// The visits of `count` edges of a cell, packed in a word, the first in its lowest four bits.
-fn visit_all(
-    samples: &[f32],
-    coordinates: &[f32; 129],
-    n: usize,
-    x: usize,
-    y: usize,
-    z: usize,
-    layer: usize,
-    row: usize,
-    count: u64,
-    edges: u64,
-    current: &mut [u32; 12],
-    work: &mut [u32],
-    vertices: &mut [f32],
-    indices: &mut [u32],
-    counts: Counts,
-) -> Counts
-    requires { ⌜ CellOf (now samples) n x y z ⌝ }
-    requires { ⌜ CacheRoom n layer row (now work) ⌝ }
-    requires { ⌜ Coordinates n (now coordinates) × Edges (unpacked count edges) ⌝ }
-    requires { ⌜ (counts .made ≤ counts .written) × (counts .written + count < 2 ^ 32) ⌝ }
-    ensures { λ r. ⌜ inHand (inCell (now (work .exit)) layer row (now (current .exit))) (now (vertices .exit)) (now (indices .exit)) r ≡ heldEdges n (now (samples .entry)) x y z (unpacked count edges) (inHand (inCell (now (work .entry)) layer row (now (current .entry))) (now (vertices .entry)) (now (indices .entry)) counts) ⌝ }
-    ensures { λ r. ⌜ (r .written ≡ counts .written + count) × (r .made ≤ r .written) ⌝ }
-{
-    let mut left = count;
-    let mut rest = edges;
-    let mut reached = counts;
-    while left > 0 {
-        let edge = (rest % 16) as usize;
-        reached = visit(
-            samples,
-            coordinates,
-            n,
-            x,
-            y,
-            z,
-            layer,
-            row,
-            edge,
-            current,
-            work,
-            vertices,
-            indices,
-            reached,
-        );
-        rest = rest / 16;
-        left -= 1;
-    }
-    reached
-}
-
-// One cell of the crate numbering: `case` is its sign byte, `rows` the packed rows of the triangle table.
-// Before and after it no number is held in `current_cell`, as `advance_cell` has it.
-pub fn crate_cell(
-    rows: &[u64; 256],
-    samples: &[f32],
-    coordinates: &[f32; 129],
-    n: usize,
-    x: usize,
-    y: usize,
-    z: usize,
-    case: usize,
-    layer: usize,
-    row: usize,
-    work: &mut [u32],
-    vertices: &mut [f32],
-    indices: &mut [u32],
-    counts: Counts,
-) -> Counts
-    requires { ⌜ CellOf (now samples) n x y z ⌝ }
-    requires { ⌜ CacheRoom n layer row (now work) ⌝ }
-    requires { ⌜ (now rows ≡ rowWords) × Coordinates n (now coordinates) × (case ≡ signs (insideOf n (now samples)) x y z) ⌝ }
-    requires { ⌜ (counts .made ≤ counts .written) × (counts .written + 15 < 2 ^ 32) ⌝ }
-    ensures { λ r. ⌜ inHand (atBorder (now (work .exit)) layer row) (now (vertices .exit)) (now (indices .exit)) r ≡ cell (lentHooks (crateMemory n) (storeAt n (now (samples .entry)))) (insideOf n (now (samples .entry))) n z y x (inHand (atBorder (now (work .entry)) layer row) (now (vertices .entry)) (now (indices .entry)) counts) ⌝ }
-    ensures { λ r. ⌜ (r .written ≤ counts .written + 15) × (r .made ≤ r .written) ⌝ }
-{
-    let word = rows[case];
-    let count = 3 * (word / 0x1000_0000_0000_0000);
-    let edges = word % 0x1000_0000_0000_0000;
-    let mut current = found(work, n, x, y, layer, row);
-    visit_all(
-        samples,
-        coordinates,
-        n,
-        x,
-        y,
-        z,
-        layer,
-        row,
-        count,
-        edges,
-        &mut current,
-        work,
-        vertices,
-        indices,
-        counts,
-    )
 }

@@ -15,12 +15,12 @@ use Rattle.grid_walk.proofs.layer_cells.Statement.{statement}
 use Rattle.grid_walk.proofs.layer_cells.Tie as tie
 
 abbrev Inv-loop : tie.InvT-loop
-Inv-loop numbering rows news coordinates low high samples n z parity work₀ vertices₀ indices₀ slots reached₀ row₀ y₀ work vertices indices reached row y =
+Inv-loop numbering rows regulars news coordinates low high samples n z parity work₀ vertices₀ indices₀ slots reached₀ row₀ y₀ work vertices indices reached row y =
     Reached handCount (λ j t. cellsOfRow (cellStep numbering n samples) n z j (n - 1) t) (inHand work₀ vertices₀ indices₀ reached₀) (inHand work vertices indices reached) y (1920 * y)
     × (y ≤ n - 1) × (row ≡ rowParity n z y) × (length work ≡ length work₀) × (length vertices ≡ length vertices₀) × (length indices ≡ length indices₀)
 
 abbrev μ-loop : tie.MeasureT-loop
-μ-loop numbering rows news coordinates low high samples n z parity work₀ vertices₀ indices₀ slots reached₀ row₀ y₀ work vertices indices reached row y =
+μ-loop numbering rows regulars news coordinates low high samples n z parity work₀ vertices₀ indices₀ slots reached₀ row₀ y₀ work vertices indices reached row y =
     n - 1 - y
 
 slots-requires : tie.Need-slots-requires Inv-loop μ-loop
@@ -47,7 +47,7 @@ row-cells-requires c κs =
     let enough = pre .1 .1 .1 .enough in
     let fits = pre .1 .1 .1 .fits in
     let same = turn .before .loop .inv .3 in (
-      record { rows-are = pre .0 .0; news-are = pre .0 .1; coordinates-are = pre .0 .2; slots-are = made .slots .ensures },
+      record { rows-are = pre .0 .0; regulars-are = pre .0 .1; news-are = pre .0 .2; coordinates-are = pre .0 .3; slots-are = made .slots .ensures },
       (
         (record { layer = layer; in-y = omega arith }, turn .before .loop .inv .2),
         (pre .1 .1 .0, record { enough = omega arith; ordered = at .ordered; fits = omega arith }),

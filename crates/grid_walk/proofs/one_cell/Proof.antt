@@ -18,7 +18,7 @@ crate-cell-requires c κs =
       cell,
       (
         record { most = cell .most; layer-le = layer-le; row-le = row-le; room = room .enough },
-        ((pre .0 .rows-are, pre .0 .coordinates-are, found .0), (room .ordered, room .fits)),
+        ((pre .0 .rows-are, pre .0 .regulars-are, pre .0 .coordinates-are, found .0), (room .ordered, room .fits)),
       ),
     )
 

@@ -13,12 +13,12 @@ use Rattle.grid_walk.proofs.row_cells.Statement.{statement}
 use Rattle.grid_walk.proofs.row_cells.Tie as tie
 
 abbrev Inv-loop : tie.InvT-loop
-Inv-loop numbering rows news coordinates slots low high samples n y z row work₀ vertices₀ indices₀ class reached₀ k₀ work vertices indices reached k =
+Inv-loop numbering rows regulars news coordinates slots low high samples n y z row work₀ vertices₀ indices₀ class reached₀ k₀ work vertices indices reached k =
     Reached handCount (λ x t. cellStep numbering n samples z y x t) (inHand work₀ vertices₀ indices₀ reached₀) (inHand work vertices indices reached) (min (32 * k) (n - 1)) (480 * k)
     × (k ≤ 4) × (length work ≡ length work₀) × (length vertices ≡ length vertices₀) × (length indices ≡ length indices₀)
 
 abbrev μ-loop : tie.MeasureT-loop
-μ-loop numbering rows news coordinates slots low high samples n y z row work₀ vertices₀ indices₀ class reached₀ k₀ work vertices indices reached k =
+μ-loop numbering rows regulars news coordinates slots low high samples n y z row work₀ vertices₀ indices₀ class reached₀ k₀ work vertices indices reached k =
     n - 1 - 32 * k
 
 outside-requires : tie.Need-outside-requires Inv-loop μ-loop

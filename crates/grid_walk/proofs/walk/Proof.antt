@@ -19,36 +19,39 @@ use Rattle.grid_walk.proofs.walk.Statement.{statement}
 use Rattle.grid_walk.proofs.walk.Tie as tie
 
 abbrev Inv-loop : tie.InvT-loop
-Inv-loop numbering samples n span work₀ vertices₀ indices₀ rows news coordinates low₀ high₀ reached₀ row₀ z₀ work vertices indices low high reached row z =
+Inv-loop numbering samples n span work₀ vertices₀ indices₀ rows regulars news coordinates low₀ high₀ reached₀ row₀ z₀ work vertices indices low high reached row z =
     Reached handCount (λ j t. layerStep numbering n samples j (cellsOfLayer (cellStep numbering n samples) n j (n - 1) t)) (inHand work₀ vertices₀ indices₀ reached₀) (inHand work vertices indices reached) z (243840 * z)
     × (z ≤ span .last) × (row ≡ rowParity n z 0) × LayerWords n samples z low × (length work ≡ length work₀) × (length vertices ≡ length vertices₀) × (length indices ≡ length indices₀)
 
 abbrev μ-loop : tie.MeasureT-loop
-μ-loop numbering samples n span work₀ vertices₀ indices₀ rows news coordinates low₀ high₀ reached₀ row₀ z₀ work vertices indices low high reached row z =
+μ-loop numbering samples n span work₀ vertices₀ indices₀ rows regulars news coordinates low₀ high₀ reached₀ row₀ z₀ work vertices indices low high reached row z =
     span .last - z
 
 row-words-requires : tie.Need-row-words-requires Inv-loop μ-loop
 row-words-requires c κs = search needs
 
+regular-words-requires : tie.Need-regular-words-requires Inv-loop μ-loop
+regular-words-requires c κs = search needs
+
 new-words-requires : tie.Need-new-words-requires Inv-loop μ-loop
 new-words-requires c κs = search needs
 
 coordinates-requires : tie.Need-coordinates-requires Inv-loop μ-loop
-coordinates-requires c κs = let pre = c .before .before .before .before .before .before .pre .0 in (pre .0, pre .1)
+coordinates-requires c κs = let pre = c .before .before .before .before .before .before .before .pre .0 in (pre .0, pre .1)
 
 fill-layer-requires : tie.Need-fill-layer-requires Inv-loop μ-loop
 fill-layer-requires c κs =
-    let pre = c .before .before .before .before .before .before .before .before .pre in
+    let pre = c .before .before .before .before .before .before .before .before .before .pre in
     let ordered = pre .1 .0 .ordered in
     let most = pre .1 .0 .most in
     (pre .0 .0, pre .0 .1, planes-le _ _ _ (omega arith) (pre .0 .2))
 
 sub-row : tie.Need-sub-row Inv-loop μ-loop
-sub-row c = let least = c .before .before .before .before .before .before .before .before .before .pre .0 .0 in omega arith
+sub-row c = let least = c .before .before .before .before .before .before .before .before .before .before .pre .0 .0 in omega arith
 
 mul-row : tie.Need-mul-row Inv-loop μ-loop
 mul-row c =
-    let start = c .before .before .before .before .before .before .before .before .before .before in
+    let start = c .before .before .before .before .before .before .before .before .before .before .before in
     let pre = start .pre in
     let ordered = pre .1 .0 .ordered in
     let last = pre .1 .0 .most in
@@ -57,7 +60,7 @@ mul-row c =
 
 loop-holds : tie.Need-loop-holds Inv-loop μ-loop
 loop-holds c =
-    let pre = c .before .before .before .before .before .before .before .before .before .before .pre in (
+    let pre = c .before .before .before .before .before .before .before .before .before .before .before .pre in (
       reached-begun _ _ _ _ (pre .1 .0) _ _ _ (pre .1 .1),
       pre .1 .0 .ordered,
       ap (λ (k : ℕ). k % 2) (sym (add-zero _)),
@@ -69,30 +72,30 @@ loop-holds c =
 
 add-fill-layer : tie.Need-add-fill-layer Inv-loop μ-loop
 add-fill-layer c =
-    let pre = c .before .before .before .before .before .before .before .before .before .before .before .before .before .pre in
+    let pre = c .before .before .before .before .before .before .before .before .before .before .before .before .before .before .pre in
     let most = pre .0 .1 in
     let last = pre .1 .0 .most in
     omega arith
 
 fill-layer-requires-2 : tie.Need-fill-layer-requires-2 Inv-loop μ-loop
 fill-layer-requires-2 c κs =
-    let pre = c .before .before .before .before .before .before .before .before .before .before .before .before .before .before .pre in
+    let pre = c .before .before .before .before .before .before .before .before .before .before .before .before .before .before .before .pre in
     let most = pre .1 .0 .most in
     (pre .0 .0, pre .0 .1, planes-le _ _ _ (omega arith) (pre .0 .2))
 
 layer-cells-requires : tie.Need-layer-cells-requires Inv-loop μ-loop
 layer-cells-requires c κs =
-    let filled = c .before .before .before .before .before .before .before .before in
+    let filled = c .before .before .before .before .before .before .before .before .before in
     let turn = filled .before .before .before .before in
     let tables = turn .before .before .before .before in
-    let pre = tables .before .before .before .before .before .before .before .pre in
+    let pre = tables .before .before .before .before .before .before .before .before .pre in
     let most = pre .0 .1 in
     let room = pre .0 .3 in
     let last = pre .1 .0 .most in
     let at = turn .loop .inv in
     let grown = at .0 .grown in
     let same = at .4 in (
-      (tables .before .before .row-words .ensures, tables .before .new-words .ensures, tables .coordinates .ensures),
+      (tables .before .before .before .row-words .ensures, tables .before .before .regular-words .ensures, tables .before .new-words .ensures, tables .coordinates .ensures),
       (
         (layer-of _ _ _ (pre .0 .0) most (pre .0 .2) (omega arith), at .2),
         ((at .3, filled .fill-layer2 .ensures), record { enough = omega arith; ordered = at .0 .ordered; fits = omega arith }),
@@ -100,26 +103,26 @@ layer-cells-requires c κs =
     )
 
 sub-row-2 : tie.Need-sub-row-2 Inv-loop μ-loop
-sub-row-2 c = let least = c .before .before .before .before .before .before .before .before .before .before .before .before .before .before .before .before .before .before .before .before .before .before .before .before .before .before .before .before .before .before .pre .0 .0 in omega arith
+sub-row-2 c = let least = c .before .before .before .before .before .before .before .before .before .before .before .before .before .before .before .before .before .before .before .before .before .before .before .before .before .before .before .before .before .before .before .before .pre .0 .0 in omega arith
 
 add-row : tie.Need-add-row Inv-loop μ-loop
 add-row c =
-    let turn = c .before .before .before .before .before .before .before .before .before .before .before .before .before .before .before .before .before .before .before in
-    let most = turn .before .before .before .before .before .before .before .before .before .before .before .pre .0 .1 in
+    let turn = c .before .before .before .before .before .before .before .before .before .before .before .before .before .before .before .before .before .before .before .before in
+    let most = turn .before .before .before .before .before .before .before .before .before .before .before .before .pre .0 .1 in
     let row = turn .loop .inv .2 in
     omega arith
 
 end-layer-requires : tie.Need-end-layer-requires Inv-loop μ-loop
 end-layer-requires c κs =
-    let turn = c .before .before .before .before .before .before .before .before .before .before .before .before .before .before .before .before .before .before .before .before in
-    let pre = turn .before .before .before .before .before .before .before .before .before .before .before .pre .0 in
+    let turn = c .before .before .before .before .before .before .before .before .before .before .before .before .before .before .before .before .before .before .before .before .before in
+    let pre = turn .before .before .before .before .before .before .before .before .before .before .before .before .pre .0 in
     let room = pre .3 in
     let same = turn .loop .inv .4 in
     (pre .1, parity-le _, omega arith)
 
 add-z : tie.Need-add-z Inv-loop μ-loop
 add-z c =
-    let pre = c .before .before .before .before .before .before .before .before .before .before .before .before .before .before .before .before .before .before .before .before .before .before .before .before .before .before .before .before .before .before .before .before .before .before .pre in
+    let pre = c .before .before .before .before .before .before .before .before .before .before .before .before .before .before .before .before .before .before .before .before .before .before .before .before .before .before .before .before .before .before .before .before .before .before .before .before .pre in
     let most = pre .0 .1 in
     let last = pre .1 .0 .most in
     omega arith
@@ -131,7 +134,7 @@ loop-again : tie.Need-loop-again Inv-loop μ-loop
 loop-again c =
     let ended = c .before .before in
     let called = ended .before .before .before .before .before .before .before .before in
-    let filled = called .before .before .before .before .before .before .before .before .before in
+    let filled = called .before .before .before .before .before .before .before .before .before .before in
     let at = filled .before .before .before .before .loop .inv in
     let parity = parity-layer _ _ _ (at .2) in (
       reached-next _ _ _ 243840 _ _ _ (at .0) (layer-done _ _ _ _ _ _ _ _ _ _ _ parity (called .layer-cells .ensures .0) (ended .end-layer .ensures)) (called .layer-cells .ensures .1 .0) (called .layer-cells .ensures .1 .1),
@@ -155,7 +158,7 @@ same-length-3 c = search needs
 returns : tie.Need-returns Inv-loop μ-loop
 unfolding walkSteps
 returns c =
-    let start = c .before .before .before .before .before .before .before .before .before .before .before .before .before in
+    let start = c .before .before .before .before .before .before .before .before .before .before .before .before .before .before in
     let most = start .pre .0 .1 in
     let last = start .pre .1 .0 .most in
     let at = c .before .before .loop .inv .0 in
@@ -170,6 +173,7 @@ walk-spec =
     Inv-loop
     μ-loop
     row-words-requires
+    regular-words-requires
     new-words-requires
     coordinates-requires
     fill-layer-requires

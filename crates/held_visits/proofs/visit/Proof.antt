@@ -2,9 +2,9 @@
 use mathlib.Core.Path.{refl}
 use native.Mathlib.Omega.{arith}
 use borrow.Author.Needs.{needs}
-use Rattle.index_cache.proofs.HeldVisit.{visit-named, visit-made}
-use Rattle.index_cache.proofs.visit.Statement.{statement}
-use Rattle.index_cache.proofs.visit.Tie as tie
+use Rattle.held_visits.proofs.HeldVisit.{visit-named, visit-made}
+use Rattle.held_visits.proofs.visit.Statement.{statement}
+use Rattle.held_visits.proofs.visit.Tie as tie
 
 mul-number : tie.Need-mul-number
 mul-number c = search needs
@@ -28,17 +28,8 @@ returns c =
     let start = at-if .before .before .before .before .before .before in
     (visit-named _ _ _ _ _ _ _ _ _ _ _ _ (start .args .counts) _ _ refl (omega arith) (named .put-index .ensures), (refl, omega arith))
 
-put-requires : tie.Need-put-requires
-put-requires c κs = search needs
-
-mul-current : tie.Need-mul-current
-mul-current c = search needs
-
-element-write-current : tie.Need-element-write-current
-element-write-current c = search needs
-
-put-vertex-requires : tie.Need-put-vertex-requires
-put-vertex-requires c κs = search needs
+make-edge-requires : tie.Need-make-edge-requires
+make-edge-requires c κs = search needs
 
 put-index-requires-2 : tie.Need-put-index-requires-2
 put-index-requires-2 c κs = search needs
@@ -46,8 +37,8 @@ put-index-requires-2 c κs = search needs
 add-t19 : tie.Need-add-t19
 add-t19 c = search needs
 
-add-t34 : tie.Need-add-t34
-add-t34 c =
+add-t33 : tie.Need-add-t33
+add-t33 c =
     let start = c .before .before .before .before .before .before .before .before .before .before .before .before .before .before .before .before .before .before .before .before in
     omega (arith, start .pre .1)
 
@@ -63,13 +54,10 @@ same-length-4 c = search needs
 returns-2 : tie.Need-returns-2
 returns-2 c =
     let indexed = c .before .before .before .before in
-    let stored = indexed .before .before .before .before in
-    let cached = stored .before .before .before .before in
-    let at-if = cached .before .before in
-    let start = at-if .before .before .before .before .before .before in (
-      visit-made _ _ _ _ _ _ _ _ _ _ _ _ (start .args .counts) _ _ _ _ refl (omega arith) (cached .put .ensures) (stored .put-vertex .ensures) (indexed .put-index2 .ensures),
-      (refl, omega arith),
-    )
+    let made = indexed .before .before .before .before .before .before in
+    let at-if = made .before .before .before .before in
+    let start = at-if .before .before .before .before .before .before in
+    (visit-made _ _ _ _ _ _ _ _ _ _ _ _ (start .args .counts) _ _ _ _ _ refl (omega arith) (made .make-edge .ensures) (indexed .put-index2 .ensures), (refl, omega arith))
 
 pub visit-spec : {M : Type 1} → statement M
 visit-spec =
@@ -81,13 +69,10 @@ visit-spec =
     add-t24
     same-length
     returns
-    put-requires
-    mul-current
-    element-write-current
-    put-vertex-requires
+    make-edge-requires
     put-index-requires-2
     add-t19
-    add-t34
+    add-t33
     same-length-2
     same-length-3
     same-length-4

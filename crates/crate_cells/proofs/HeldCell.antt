@@ -13,8 +13,9 @@ use Rattle.walk_models.specs.CacheMemory.{CacheMemory, putLayer, putRow, putMem
 use Rattle.packed_tables.specs.Unpacked.{Edges}
 use Rattle.lent_mesh.specs.declared.Counts.{Counts}
 use Rattle.lent_mesh.specs.Stored.{storeAt, inHand}
-use Rattle.index_cache.specs.CellMemory.{atBorder, inCell, foundAll, heldMemory, heldVisit, heldEdges}
-use Rattle.index_cache.proofs.FoundKept.{Holds, holds-start, holds-put}
+use Rattle.index_cache.specs.Found.{foundAll}
+use Rattle.held_visits.specs.CellMemory.{atBorder, inCell, heldMemory, heldVisit, heldEdges}
+use Rattle.crate_cells.proofs.FoundKept.{Holds, holds-start, holds-put}
 
 abbrev State : Type 0
 State = Lent CacheMemory (List Float)

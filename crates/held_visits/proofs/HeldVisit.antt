@@ -1,4 +1,4 @@
--- One visit by what `current` has for its edge: a number, which is written as an index, or nothing, and the next vertex is made. For `visit`.
+-- One visit by what `current` has for its edge: a number, which is written as an index, or nothing, and the next vertex is made. For `make_edge` and `visit`.
 use mathlib.Core.Path.{_≡_, refl, sym, ap, _∙_}
 use mathlib.Core.List.{List}
 use Prim.Native.Nat.{ℕ, zero, suc, _+_, _-_, _≤_, _<_}
@@ -12,7 +12,20 @@ use Rattle.walk_models.specs.CacheMemory.{CacheMemory, putLayer, putRow, putMem
 use Rattle.lent_mesh.specs.declared.Counts.{Counts}
 use Rattle.lent_mesh.specs.Grid.{positionAt}
 use Rattle.lent_mesh.specs.Stored.{putPoint, storeAt, inHand}
-use Rattle.index_cache.specs.CellMemory.{inCell, heldMemory, heldVisit}
+use Rattle.held_visits.specs.CellMemory.{inCell, numberEdge, heldMemory, heldVisit}
+
+module _ (n : ℕ) (samples : List Float) (x y z e l r : ℕ) (work current : List ℕ) (vertices : List Float) where
+  -- what `make_edge` leaves, whatever indices and counts there are
+  abbrev pub Numbered : ℕ → List ℕ → List ℕ → List Float → Type 0
+  Numbered i u held vs =
+      (is : List ℕ) (c : Counts) → inHand (inCell u l r held) vs is c ≡ numberEdge n samples x y z e i (inHand (inCell work l r current) vertices is c)
+
+  pub edge-numbered : (i : ℕ) (u : List ℕ) (vs : List Float)
+      → u ≡ putRow n (1 - r) x e i (putLayer n (1 - l) x y e i work)
+      → vs ≡ putPoint vertices i (positionAt n samples (edgeVisit x y z e))
+      → Numbered i u (set current e i) vs
+  unfolding numberEdge putMemory
+  edge-numbered i u vs a b is c = rw (a, b)
 
 module _ (n : ℕ) (samples : List Float) (x y z e l r : ℕ) (work current : List ℕ) (vertices : List Float) (indices : List ℕ) (counts : Counts) where
   abbrev before : Lent CacheMemory (List Float)
@@ -39,15 +52,17 @@ module _ (n : ℕ) (samples : List Float) (x y z e l r : ℕ) (work current : Li
       → inHand (inCell work l r current) vertices is (record { made = counts .made; written = counts .written + 1 }) ≡ heldVisit n samples x y z e before
   visit-named number is p q h = rw h (choose-named number q ∙ chosen number p)
 
-  pub visit-made : (number : ℕ) (u : List ℕ) (vs : List Float) (is : List ℕ)
+  pub visit-made : (number : ℕ) (u held : List ℕ) (vs : List Float) (is : List ℕ)
       → getD current e 0 ≡ number
       → number ≤ 0
-      → u ≡ putRow n (1 - r) x e (counts .made) (putLayer n (1 - l) x y e (counts .made) work)
-      → vs ≡ putPoint vertices (counts .made) (positionAt n samples (edgeVisit x y z e))
+      → Numbered n samples x y z e l r work current vertices (counts .made) u held vs
       → is ≡ set indices (counts .written) (counts .made)
-      → inHand (inCell u l r (set current e (counts .made))) vs is (record { made = counts .made + 1; written = counts .written + 1 })
-      ≡ heldVisit n samples x y z e before
-  unfolding chooseLent heldMemory putMemory
-  visit-made number u vs is p q a b d =
+      → inHand (inCell u l r held) vs is (record { made = counts .made + 1; written = counts .written + 1 }) ≡ heldVisit n samples x y z e before
+  unfolding chooseLent heldMemory numberEdge
+  visit-made number u held vs is p q a d =
       let none : getD current e 0 ≡ 0 = omega arith in
-      rw (a, b, d) (chosen 0 none)
+      rw d
+      (ap (λ (s : Lent CacheMemory (List Float)).
+      record { memory = s .memory; vertices = s .vertices; indices = set indices (counts .written) (counts .made); made = counts .made + 1; written = counts .written + 1 })
+      (a indices counts)
+      ∙ chosen 0 none)

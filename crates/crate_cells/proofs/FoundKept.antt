@@ -14,7 +14,8 @@ use Rattle.walk.specs.Cache.{inLayer, putColumn, getColumn}
 use Rattle.walk.proofs.Bools.{bool-cases, and-left, and-right}
 use Rattle.walk.proofs.Rank.{place-lt}
 use Rattle.walk_models.specs.CacheMemory.{layerPlace, rowPlace, putLayer, putRow, putMemory, foundMemory, getMemory}
-use Rattle.index_cache.specs.CellMemory.{inCell, foundAll}
+use Rattle.index_cache.specs.Found.{foundAll}
+use Rattle.held_visits.specs.CellMemory.{inCell}
 
 -- ---- the found number, or else the cell's own
 

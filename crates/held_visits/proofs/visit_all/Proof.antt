@@ -6,10 +6,11 @@ use lib.ListN.{length}
 use borrow.Author.Needs.{needs}
 use Rattle.packed_tables.specs.Unpacked.{unpacked, Edges}
 use Rattle.lent_mesh.specs.Stored.{inHand}
-use Rattle.index_cache.specs.CellMemory.{inCell}
-use Rattle.index_cache.proofs.PackedVisits.{ToGo, edges-first, edges-rest, turn-taken, all-taken}
-use Rattle.index_cache.proofs.visit_all.Statement.{statement}
-use Rattle.index_cache.proofs.visit_all.Tie as tie
+use Rattle.held_visits.specs.CellMemory.{inCell}
+use Rattle.packed_tables.proofs.PackedEdges.{edges-first, edges-rest}
+use Rattle.held_visits.proofs.PackedVisits.{ToGo, turn-taken, all-taken}
+use Rattle.held_visits.proofs.visit_all.Statement.{statement}
+use Rattle.held_visits.proofs.visit_all.Tie as tie
 
 abbrev Inv-loop : tie.InvT-loop
 Inv-loop samples coordinates n x y z layer row count edges current₀ work₀ vertices₀ indices₀ left₀ rest₀ reached₀ current work vertices indices left rest reached =

@@ -10,7 +10,7 @@ use Rattle.walk.proofs.CellEdges.{cellEdges-lt, cellEdges-most}
 use Rattle.packed_tables.specs.Packed.{rowWords}
 use Rattle.packed_tables.specs.Unpacked.{Edges}
 use Rattle.packed_tables.proofs.Words.{inThrees, row-word}
-use Rattle.index_cache.proofs.PackedVisits.{unpacked-length, edges-of-each}
+use Rattle.packed_tables.proofs.PackedEdges.{unpacked-length, edges-of-each}
 
 module _ (g : Inside) (x y z case : ℕ) (byte : case ≡ signs g x y z) where
   pub case-lt : case < 256

@@ -1,0 +1,3 @@
+pub mod RowEdges
+pub mod FoundKept
+pub mod HeldCell

@@ -1,0 +1,2 @@
+pub mod PackedVisits
+pub mod HeldVisit

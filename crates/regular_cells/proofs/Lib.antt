@@ -1,0 +1,6 @@
+pub mod NamedEdges
+pub mod MadeFirst
+pub mod Exchange
+pub mod RegularVisits
+pub mod RegularRow
+pub mod RegularTest
