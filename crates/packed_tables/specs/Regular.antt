@@ -9,7 +9,8 @@ use Rattle.marching_cubes_tables.specs.Tables.{triangleConnection}
 use Rattle.marching_cubes_tables.specs.Rule.{named, bitAt}
 use Rattle.walk.specs.Walk.{bit}
 
--- edges 5, 6, 7, 10 and 11 are looked for nowhere outside the cell, and edge 0 is put only by a cell of the first row
+-- edges 5, 6, 7, 10 and 11 are looked for nowhere outside the cell; edge 0 is found only where the cell below made it as its edge 4, which cells of a
+-- first row do
 abbrev pub unfound : ℕ → Bool
 unfound e = getD (true ∷ false ∷ false ∷ false ∷ false ∷ true ∷ true ∷ true ∷ false ∷ false ∷ true ∷ true ∷ []) e false
 

@@ -1,4 +1,4 @@
-pub mod NamedEdges
+pub mod NamedRow
 pub mod MadeFirst
 pub mod Exchange
 pub mod RegularVisits

@@ -3,10 +3,10 @@
 use mathlib.Core.Path.{_≡_, refl, sym, ap, ap₂, _∙_}
 use mathlib.Core.Bool.{Bool, true, false, cond, not, _&&_}
 use mathlib.Core.List.{List, [], _∷_}
-use Prim.Native.Nat.{ℕ, zero, suc, _+_, _*_, _/_, _%_, _<_}
+use Prim.Native.Nat.{ℕ, suc, _+_, _*_, _/_, _%_, _<_}
 use native.Mathlib.Nat.{add-zero, zero-add}
 use native.Mathlib.Omega.{arith}
-use lib.Dec.{T, eqb}
+use lib.Dec.{eqb}
 use lib.ListN.{length, getD}
 use lib.Ieee.{Float}
 use Rattle.marching_cubes_tables.specs.Rule.{member}
@@ -14,14 +14,15 @@ use Rattle.walk.specs.Ownership.{newEdges}
 use Rattle.walk.proofs.OwnedCells.{fold, times-fold}
 use Rattle.walk_models.specs.Lent.{Lent}
 use Rattle.walk_models.specs.CacheMemory.{CacheMemory}
-use Rattle.walk_models.proofs.AnyOrder.{rankedFrom, ranked, apart, sorted, allFree, fold-sorted}
+use Rattle.walk_models.proofs.AnyOrder.{rankedFrom, ranked, apart, fold-sorted}
 use Rattle.packed_tables.specs.Unpacked.{Edges}
 use Rattle.packed_tables.specs.Regular.{unfound, names, rankOf, newCount}
 use Rattle.packed_tables.proofs.RegularWords.{Regular, pairsOf, six}
 use Rattle.lent_mesh.specs.declared.Counts.{Counts}
 use Rattle.lent_mesh.specs.Stored.{inHand}
 use Rattle.held_visits.specs.CellMemory.{inCell, heldVisit, heldEdges, numberEdge}
-use Rattle.regular_cells.specs.RegularCell.{namedEdge, twoEdges, lowerEdges, regularEdges, nameHeld, nameEdges}
+use Rattle.regular_edges.specs.RegularEdges.{namedEdge, twoEdges, lowerEdges, regularEdges}
+use Rattle.regular_cells.specs.RegularCell.{nameHeld, nameEdges}
 use Rattle.regular_cells.proofs.MadeFirst.{newEdges-agree, fresh, makeNext, made-first}
 use Rattle.regular_cells.proofs.Exchange.{byRank, rank-exchange}
 

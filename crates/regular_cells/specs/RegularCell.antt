@@ -1,8 +1,8 @@
--- A regular cell as the code takes it: its new edges are made at once, each with the number that its rank gives it, and then its row is named. A private
--- model, which the contracts of the walk's functions cite.
+-- A regular cell as the code takes it: the test for one, what is known of it, and its row named once its new edges are made. A private model, which the
+-- contracts of the walk's functions cite.
 use mathlib.Core.Path.{_≡_}
-use mathlib.Core.Bool.{Bool, true, cond}
-use mathlib.Core.List.{List, [], _∷_}
+use mathlib.Core.Bool.{Bool, true}
+use mathlib.Core.List.{List}
 use Prim.Native.Nat.{ℕ, _+_, _-_, _*_, _<_}
 use lib.Bits.{bitAnd}
 use lib.Dec.{eqb}
@@ -13,8 +13,7 @@ use Rattle.walk.specs.Walk.{bit, times}
 use Rattle.walk_models.specs.Lent.{Lent}
 use Rattle.walk_models.specs.CacheMemory.{CacheMemory}
 use Rattle.packed_tables.specs.Packed.{rowWords}
-use Rattle.packed_tables.specs.Regular.{regularWords, unfound, names, rankOf}
-use Rattle.held_visits.specs.CellMemory.{numberEdge}
+use Rattle.packed_tables.specs.Regular.{regularWords, unfound}
 
 -- a bit for each edge that a regular cell finds and that is absent, and for edge 0 if it is there
 abbrev pub amissIn : List ℕ → ℕ
@@ -36,22 +35,6 @@ pub record RegularOf (regular word : ℕ) (current : List ℕ) : Type 0 where
   pub word-is : word ≡ getD rowWords case 0
   pub twelve : length current ≡ 12
   pub absent : (e : ℕ) → member e (rowEdges case) ≡ true → eqb (getD current e 0) 0 ≡ unfound e
-
--- over lent lists, for a grid of size n and the cell (x, y, z)
-module _ (n : ℕ) (samples : List Float) (x y z : ℕ) where
-  -- if the word names it, by its rank from the number `made` on
-  unfoldable pub namedEdge : ℕ → ℕ → ℕ → Lent CacheMemory (List Float) → Lent CacheMemory (List Float)
-  namedEdge regular made e s = cond (names regular e) (numberEdge n samples x y z e (made + rankOf regular e) s) s
-
-  unfoldable pub twoEdges : ℕ → ℕ → ℕ → ℕ → Lent CacheMemory (List Float) → Lent CacheMemory (List Float)
-  twoEdges regular made a b s = namedEdge regular made b (namedEdge regular made a s)
-
-  -- the edges that a regular cell can make: those before edge 10, and all six
-  unfoldable pub lowerEdges : ℕ → ℕ → Lent CacheMemory (List Float) → Lent CacheMemory (List Float)
-  lowerEdges regular made s = twoEdges regular made 6 7 (twoEdges regular made 0 5 s)
-
-  unfoldable pub regularEdges : ℕ → ℕ → Lent CacheMemory (List Float) → Lent CacheMemory (List Float)
-  regularEdges regular made s = twoEdges regular made 10 11 (lowerEdges regular made s)
 
 -- the number that `current` has for the edge e is the next index, and so for some edges one after the other
 unfoldable pub nameHeld : ℕ → Lent CacheMemory (List Float) → Lent CacheMemory (List Float)

@@ -10,7 +10,7 @@ use Rattle.walk.proofs.OwnedCells.{fold}
 use Rattle.packed_tables.specs.Unpacked.{unpacked, Edges}
 use Rattle.packed_tables.proofs.PackedEdges.{three-edges}
 use Rattle.regular_cells.specs.RegularCell.{nameHeld}
-use Rattle.regular_cells.proofs.NamedEdges.{hand, name-three, name-none}
+use Rattle.regular_cells.proofs.NamedRow.{hand, name-three, name-none}
 use Rattle.regular_cells.proofs.name_all.Statement.{statement}
 use Rattle.regular_cells.proofs.name_all.Tie as tie
 

@@ -1,59 +1,20 @@
--- The steps of a regular cell as the code takes them: an edge that its word names or does not, the six edges, and the row named three edges at a time.
--- For `make_named` to `name_all`.
-use mathlib.Core.Path.{_≡_, refl, sym, ap, ap₂, _∙_}
-use mathlib.Core.List.{List, _∷_}
-use Prim.Native.Nat.{ℕ, zero, suc, _+_, _-_, _*_, _/_, _%_, _≤_, _<_}
+-- The row of a regular cell, named three edges at a time. For `name_all`.
+use mathlib.Core.Path.{_≡_, sym, ap, ap₂, _∙_}
+use mathlib.Core.List.{List}
+use Prim.Native.Nat.{ℕ, _+_, _-_, _*_, _/_, _%_, _≤_, _<_}
 use native.Mathlib.Omega.{arith}
 use lib.ListN.{getD, set}
 use lib.Ieee.{Float}
-use borrow.Author.Tests.{eq-eqb, ne-eqb}
-use Rattle.marching_cubes_tables.specs.Rule.{bitAt}
 use Rattle.walk.proofs.OwnedCells.{fold, times-fold}
 use Rattle.walk_models.specs.Lent.{Lent}
 use Rattle.walk_models.specs.CacheMemory.{CacheMemory}
 use Rattle.packed_tables.specs.Unpacked.{unpacked}
-use Rattle.packed_tables.specs.Regular.{rankOf}
 use Rattle.packed_tables.proofs.PackedEdges.{unpacked-suc}
-use Rattle.held_visits.specs.CellMemory.{inCell, numberEdge}
-use Rattle.regular_cells.specs.RegularCell.{namedEdge, twoEdges, lowerEdges, regularEdges, nameHeld, nameEdges}
+use Rattle.held_visits.specs.CellMemory.{inCell}
+use Rattle.regular_cells.specs.RegularCell.{nameHeld, nameEdges}
 
 abbrev State : Type 0
 State = Lent CacheMemory (List Float)
-
--- ---- edges made
-
-module _ (n : ℕ) (samples : List Float) (x y z regular made : ℕ) where
-  pub named-there : (e : ℕ) (s t : State) → bitAt regular e ≡ 1 → t ≡ numberEdge n samples x y z e (made + rankOf regular e) s
-      → t ≡ namedEdge n samples x y z regular made e s
-  unfolding namedEdge
-  named-there e s t h q = q ∙ rw (eq-eqb (bitAt regular e) 1 h)
-
-  pub named-absent : (e : ℕ) (s : State) → (bitAt regular e ≡ 1 → ⊥) → s ≡ namedEdge n samples x y z regular made e s
-  unfolding namedEdge
-  named-absent e s h = rw (ne-eqb (bitAt regular e) 1 h)
-
-  abbrev step : ℕ → State → State
-  step = namedEdge n samples x y z regular made
-
-  abbrev two : ℕ → ℕ → State → State
-  two = twoEdges n samples x y z regular made
-
-  abbrev lower : State → State
-  lower = lowerEdges n samples x y z regular made
-
-  pub two-named : (i j : ℕ) (s t u : State) → t ≡ step i s → u ≡ step j t → u ≡ two i j s
-  unfolding twoEdges
-  two-named i j s t u et eu = eu ∙ ap (step j) et
-
-  pub lower-named : (s t u : State) → t ≡ two 0 5 s → u ≡ two 6 7 t → u ≡ lower s
-  unfolding lowerEdges
-  lower-named s t u et eu = eu ∙ ap (two 6 7) et
-
-  pub six-named : (s t u : State) → t ≡ lower s → u ≡ two 10 11 t → u ≡ regularEdges n samples x y z regular made s
-  unfolding regularEdges
-  six-named s t u et eu = eu ∙ ap (two 10 11) et
-
--- ---- edges named
 
 fold-first : (left rest : ℕ) (s : State) → 0 < left → fold nameHeld (unpacked left rest) s ≡ fold nameHeld (unpacked (left - 1) (rest / 16)) (nameHeld (rest % 16) s)
 unfolding fold

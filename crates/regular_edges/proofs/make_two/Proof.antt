@@ -1,9 +1,9 @@
 -- `make_two`: two edges, one after the other.
 use native.Mathlib.Omega.{arith}
 use borrow.Author.Needs.{needs}
-use Rattle.regular_cells.proofs.NamedEdges.{two-named}
-use Rattle.regular_cells.proofs.make_two.Statement.{statement}
-use Rattle.regular_cells.proofs.make_two.Tie as tie
+use Rattle.regular_edges.proofs.NamedEdges.{two-named}
+use Rattle.regular_edges.proofs.make_two.Statement.{statement}
+use Rattle.regular_edges.proofs.make_two.Tie as tie
 
 make-named-requires : tie.Need-make-named-requires
 make-named-requires c κs =

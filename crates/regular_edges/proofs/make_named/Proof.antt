@@ -1,8 +1,8 @@
 -- `make_named`: an edge that the word names, or nothing is done.
-use Rattle.regular_cells.proofs.NamedEdges.{named-there, named-absent}
+use Rattle.regular_edges.proofs.NamedEdges.{named-there, named-absent}
 use borrow.Author.Needs.{needs}
-use Rattle.regular_cells.proofs.make_named.Statement.{statement}
-use Rattle.regular_cells.proofs.make_named.Tie as tie
+use Rattle.regular_edges.proofs.make_named.Statement.{statement}
+use Rattle.regular_edges.proofs.make_named.Tie as tie
 
 shr-if1 : tie.Need-shr-if1
 shr-if1 c = search needs
