@@ -8,7 +8,7 @@ use lib.Dec.{eqb}
 use Rattle.walk.specs.Walk.{Inside}
 use Rattle.walk_models.specs.Owned.{cellsOfLayer}
 use Rattle.lent_mesh.specs.declared.Counts.{Counts}
-use Rattle.grid_walk.specs.Steps.{rowParity}
+use Rattle.row_walk.specs.Steps.{rowParity}
 use Rattle.held_bits.specs.HeldCell.{Held, held, clearHeld}
 use Rattle.grid_count.specs.Steps.{countStep, endStep}
 

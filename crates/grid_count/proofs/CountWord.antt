@@ -23,7 +23,7 @@ use Rattle.sign_cells.proofs.ActiveCells.{activeWord-lt, activeWord-idle}
 use Rattle.sign_cells.proofs.LowestBits.{Onward, onward-found, onward-next, onward-last}
 use Rattle.sign_cells.proofs.Turns.{times-idle}
 use Rattle.joined_slots.specs.OneCell.{countOf}
-use Rattle.grid_walk.specs.Steps.{layerParity, rowParity}
+use Rattle.row_walk.specs.Steps.{layerParity, rowParity}
 use Rattle.held_bits.specs.Names.{nameWords}
 use Rattle.held_bits.specs.HeldCell.{Held, held, heldCell}
 use Rattle.held_bits.proofs.CellSteps.{heldCell-idle}

@@ -14,7 +14,7 @@ use Rattle.walk.specs.Numbering.{Mesh, empty, hooks, mesh, joined, crate}
 use Rattle.walk.proofs.WalkInduction.{times-kept}
 use Rattle.walk_models.specs.Owned.{Count, countCell, cellsOfRow, cellsOfLayer, cellsOfGrid}
 use Rattle.walk_models.proofs.JoinedCells.{count-cells}
-use Rattle.grid_walk.specs.Steps.{layerParity, rowParity}
+use Rattle.row_walk.specs.Steps.{layerParity, rowParity}
 use Rattle.grid_walk.proofs.Layers.{parity-next}
 use Rattle.held_bits.specs.HeldCell.{Held, heldRoom}
 use Rattle.held_bits.proofs.HeldBorder.{Border, cell-kept, row-end-kept, layer-end-kept, start-border}

@@ -6,7 +6,7 @@ use lib.Dec.{eqb}
 use lib.ListN.{getD}
 use Rattle.walk.specs.Walk.{Inside, signs, times}
 use Rattle.walk_models.specs.Owned.{Count, countCell, cellsOfLayer}
-use Rattle.grid_walk.specs.Steps.{layerParity, rowParity}
+use Rattle.row_walk.specs.Steps.{layerParity, rowParity}
 use Rattle.held_bits.specs.Names.{nameWords}
 use Rattle.held_bits.specs.HeldCell.{Held, heldCell, clearHeld}
 

@@ -13,7 +13,7 @@ ghost use Rattle.lent_mesh.specs.Grid.{insideOf};
 ghost use Rattle.sign_words.specs.Words.{LayerWords};
 ghost use Rattle.sign_cells.specs.Cells.{QuadOf, cellsIn, activeWord};
 ghost use Rattle.joined_slots.specs.OneCell.{classOf};
-ghost use Rattle.grid_walk.specs.Steps.{rowParity};
+ghost use Rattle.row_walk.specs.Steps.{rowParity};
 ghost use Rattle.grid_walk.specs.Growth.{GrowsWithin};
 ghost use Rattle.held_bits.specs.HeldCell.{held, heldRoom, clearHeld};
 ghost use Rattle.layer_tally.specs.Layer.{Masks, Firsts};

@@ -15,7 +15,8 @@ use Rattle.walk_models.specs.Owned.{cellsOfRow, cellsOfLayer}
 use Rattle.walk_models.specs.CacheMemory.{CacheMemory, putMemory, crateMemory, clearRow}
 use Rattle.lent_mesh.specs.Grid.{insideOf}
 use Rattle.lent_mesh.specs.Stored.{storeAt}
-use Rattle.grid_walk.specs.Steps.{Hand, border, unborder, layerParity, rowParity, cellStep, layerStep, walkSteps}
+use Rattle.row_walk.specs.Steps.{Hand, border, unborder, layerParity, rowParity, cellStep}
+use Rattle.grid_walk.specs.Steps.{layerStep, walkSteps}
 
 -- ---- a cell keeps the parities and leaves `current` zero
 

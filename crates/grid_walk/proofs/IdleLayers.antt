@@ -21,9 +21,10 @@ use Rattle.lent_mesh.specs.Grid.{insideOf}
 use Rattle.sign_cells.proofs.Turns.{Reached, times-idle}
 use Rattle.grid_walk.specs.declared.Span.{Span}
 use Rattle.grid_walk.specs.Growth.{GrowsWithin}
-use Rattle.grid_walk.specs.Steps.{Hand, rowParity, cellStep, layerStep, walkSteps}
-use Rattle.grid_walk.proofs.OneCell.{parity-le}
-use Rattle.grid_walk.proofs.WordLoop.{handCount, row-idle}
+use Rattle.row_walk.specs.Steps.{Hand, rowParity, cellStep}
+use Rattle.grid_walk.specs.Steps.{layerStep, walkSteps}
+use Rattle.row_walk.proofs.OneCell.{parity-le}
+use Rattle.row_walk.proofs.WordLoop.{handCount, row-idle}
 use Rattle.grid_walk.proofs.NoVisits.{no-visits}
 
 -- the words that a size asks for

@@ -14,8 +14,9 @@ use Rattle.walk_models.specs.CacheMemory.{clearRow}
 use Rattle.lent_mesh.specs.declared.Counts.{Counts}
 use Rattle.lent_mesh.specs.Stored.{inHand}
 use Rattle.sign_words.proofs.RowWords.{planes-le}
-use Rattle.grid_walk.specs.Steps.{Hand, rowParity, cellStep, layerStep}
-use Rattle.grid_walk.specs.Ready.{LayerOf}
+use Rattle.row_walk.specs.Steps.{Hand, rowParity, cellStep}
+use Rattle.row_walk.specs.Ready.{LayerOf}
+use Rattle.grid_walk.specs.Steps.{layerStep}
 
 added : (k m : ℕ) → (k % 2 + m) % 2 ≡ (k + m) % 2
 added k m = omega arith

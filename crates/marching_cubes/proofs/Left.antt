@@ -27,7 +27,8 @@ use Rattle.lent_mesh.specs.Stored.{storeAt}
 use Rattle.marching_cubes.specs.Outcome.{workRoom, Surface, surface, surfaceOf}
 use Rattle.grid_walk.specs.declared.Span.{Span}
 use Rattle.grid_walk.specs.Growth.{GrowsWithin}
-use Rattle.grid_walk.specs.Steps.{Hand, rowParity, cellStep, layerStep, walkSteps}
+use Rattle.row_walk.specs.Steps.{Hand, rowParity, cellStep}
+use Rattle.grid_walk.specs.Steps.{layerStep, walkSteps}
 use Rattle.grid_walk.proofs.CrateSteps.{walk-beside}
 use Rattle.grid_walk.proofs.IdleLayers.{walkSteps-ended}
 

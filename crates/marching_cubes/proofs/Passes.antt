@@ -21,7 +21,8 @@ use Rattle.lent_mesh.specs.Grid.{insideOf, positionAt, floatsOf}
 use Rattle.lent_mesh.proofs.Floats.{floatsOf-length, stored-floats}
 use Rattle.grid_walk.specs.declared.Span.{Span}
 use Rattle.grid_walk.specs.Growth.{GrowsWithin}
-use Rattle.grid_walk.specs.Steps.{Hand, walkSteps}
+use Rattle.row_walk.specs.Steps.{Hand}
+use Rattle.grid_walk.specs.Steps.{walkSteps}
 use Rattle.held_bits.specs.HeldCell.{Held, heldRoom}
 use Rattle.grid_count.specs.Steps.{countSteps}
 use Rattle.grid_count.proofs.Spans.{span-alike}

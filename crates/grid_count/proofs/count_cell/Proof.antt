@@ -4,7 +4,7 @@ use Prim.Native.Nat.{ℕ, _≤_}
 use native.Mathlib.Omega.{arith}
 use borrow.Author.Needs.{needs}
 use Rattle.joined_edges.proofs.CellWords.{class-lt}
-use Rattle.grid_walk.proofs.OneCell.{parity-le}
+use Rattle.row_walk.proofs.OneCell.{parity-le}
 use Rattle.grid_count.proofs.CountWord.{crate-step, joined-step}
 use Rattle.grid_count.proofs.count_cell.Statement.{statement}
 use Rattle.grid_count.proofs.count_cell.Tie as tie

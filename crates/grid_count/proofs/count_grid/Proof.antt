@@ -11,9 +11,9 @@ use Rattle.lent_mesh.specs.Grid.{insideOf}
 use Rattle.sign_words.specs.Words.{LayerWords}
 use Rattle.sign_words.proofs.RowWords.{planes-le}
 use Rattle.sign_cells.proofs.Turns.{Reached, reached-none, reached-next, reached-all}
-use Rattle.grid_walk.specs.Steps.{rowParity}
+use Rattle.row_walk.specs.Steps.{rowParity}
 use Rattle.grid_walk.specs.Growth.{GrowsWithin}
-use Rattle.grid_walk.proofs.OneCell.{parity-le}
+use Rattle.row_walk.proofs.OneCell.{parity-le}
 use Rattle.grid_walk.proofs.Layers.{parity-layer}
 use Rattle.held_bits.specs.HeldCell.{Held, held}
 use Rattle.grid_count.specs.Steps.{countIn, countStep, endStep, countSteps}

@@ -8,7 +8,7 @@ use borrow.Author.Needs.{needs}
 use Rattle.walk_models.specs.Owned.{cellsOfRow, cellsOfLayer}
 use Rattle.lent_mesh.specs.Grid.{insideOf}
 use Rattle.sign_cells.proofs.Turns.{Reached, reached-none, reached-next, reached-all}
-use Rattle.grid_walk.specs.Steps.{rowParity}
+use Rattle.row_walk.specs.Steps.{rowParity}
 use Rattle.grid_walk.proofs.Layers.{parity-next}
 use Rattle.held_bits.specs.HeldCell.{held}
 use Rattle.grid_count.specs.Steps.{countIn, countStep}

@@ -8,8 +8,8 @@ use borrow.Author.Needs.{needs}
 use Rattle.walk_models.specs.Owned.{cellsOfRow, cellsOfLayer}
 use Rattle.lent_mesh.specs.Stored.{inHand}
 use Rattle.sign_cells.proofs.Turns.{Reached, reached-none, reached-next, reached-all}
-use Rattle.grid_walk.specs.Steps.{rowParity, cellStep}
-use Rattle.grid_walk.proofs.WordLoop.{handCount}
+use Rattle.row_walk.specs.Steps.{rowParity, cellStep}
+use Rattle.row_walk.proofs.WordLoop.{handCount}
 use Rattle.grid_walk.proofs.Layers.{parity-next}
 use Rattle.grid_walk.proofs.layer_cells.Statement.{statement}
 use Rattle.grid_walk.proofs.layer_cells.Tie as tie

@@ -10,9 +10,10 @@ use Rattle.lent_mesh.specs.Stored.{inHand}
 use Rattle.sign_words.specs.Words.{LayerWords}
 use Rattle.sign_words.proofs.RowWords.{planes-le}
 use Rattle.sign_cells.proofs.Turns.{Reached, reached-next, reached-all}
-use Rattle.grid_walk.specs.Steps.{rowParity, cellStep, layerStep, walkSteps}
-use Rattle.grid_walk.proofs.OneCell.{parity-le}
-use Rattle.grid_walk.proofs.WordLoop.{handCount}
+use Rattle.row_walk.specs.Steps.{rowParity, cellStep}
+use Rattle.grid_walk.specs.Steps.{layerStep, walkSteps}
+use Rattle.row_walk.proofs.OneCell.{parity-le}
+use Rattle.row_walk.proofs.WordLoop.{handCount}
 use Rattle.grid_walk.proofs.Layers.{swaps-le, parity-layer, layer-of, layer-done}
 use Rattle.grid_walk.proofs.IdleLayers.{reached-begun}
 use Rattle.grid_walk.proofs.walk.Statement.{statement}

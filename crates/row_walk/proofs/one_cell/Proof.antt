@@ -3,9 +3,9 @@ use mathlib.Core.Path.{subst, sym}
 use Prim.Native.Nat.{ℕ, _≤_}
 use native.Mathlib.Omega.{arith}
 use borrow.Author.Needs.{needs}
-use Rattle.grid_walk.proofs.OneCell.{crate-step, joined-step, parity-le}
-use Rattle.grid_walk.proofs.one_cell.Statement.{statement}
-use Rattle.grid_walk.proofs.one_cell.Tie as tie
+use Rattle.row_walk.proofs.OneCell.{crate-step, joined-step, parity-le}
+use Rattle.row_walk.proofs.one_cell.Statement.{statement}
+use Rattle.row_walk.proofs.one_cell.Tie as tie
 
 crate-cell-requires : tie.Need-crate-cell-requires
 crate-cell-requires c κs =

@@ -18,7 +18,7 @@ use Rattle.sign_cells.specs.Cells.{cellsIn, activeWord}
 use Rattle.sign_cells.proofs.ActiveCells.{activeWord-lt, activeWord-idle}
 use Rattle.sign_cells.proofs.LowestBits.{Onward, onward-found, onward-next, onward-last}
 use Rattle.sign_cells.proofs.Turns.{times-idle}
-use Rattle.grid_walk.specs.Steps.{Hand, border, unborder, layerParity, rowParity, cellStep}
+use Rattle.row_walk.specs.Steps.{Hand, border, unborder, layerParity, rowParity, cellStep}
 
 -- a cell that visits nothing is passed over
 cellStep-idle : (numbering n : ℕ) (samples : List Float) (z y x : ℕ) (s : Hand) → cellEdges (insideOf n samples) x y z ≡ []

@@ -11,8 +11,8 @@ use Rattle.walk_models.specs.Owned.{ownedCell}
 use Rattle.walk_models.specs.CacheMemory.{crateMemory}
 use Rattle.lent_mesh.specs.Grid.{insideOf}
 use Rattle.lent_mesh.specs.Stored.{storeAt, CellOf}
-use Rattle.grid_walk.specs.Steps.{Hand, border, unborder, layerParity, rowParity, cellStep}
-use Rattle.grid_walk.specs.Ready.{LayerOf, RowOf}
+use Rattle.row_walk.specs.Steps.{Hand, border, unborder, layerParity, rowParity, cellStep}
+use Rattle.row_walk.specs.Ready.{LayerOf, RowOf}
 
 module _ (numbering n : ℕ) (samples : List Float) (z y x : ℕ) (s t : Hand) where
   pub crate-step : (row : ℕ) → numbering ≡ 0 → row ≡ rowParity n z y

@@ -7,10 +7,10 @@ use borrow.Author.Needs.{needs}
 use Rattle.walk_models.specs.Owned.{cellsOfRow}
 use Rattle.lent_mesh.specs.Stored.{inHand}
 use Rattle.sign_cells.proofs.Turns.{Reached, reached-no-word, reached-word, reached-row}
-use Rattle.grid_walk.specs.Steps.{cellStep}
-use Rattle.grid_walk.proofs.WordLoop.{handCount, row-idle}
-use Rattle.grid_walk.proofs.row_cells.Statement.{statement}
-use Rattle.grid_walk.proofs.row_cells.Tie as tie
+use Rattle.row_walk.specs.Steps.{cellStep}
+use Rattle.row_walk.proofs.WordLoop.{handCount, row-idle}
+use Rattle.row_walk.proofs.row_cells.Statement.{statement}
+use Rattle.row_walk.proofs.row_cells.Tie as tie
 
 abbrev Inv-loop : tie.InvT-loop
 Inv-loop numbering rows regulars news coordinates slots low high samples n y z row work₀ vertices₀ indices₀ class reached₀ k₀ work vertices indices reached k =

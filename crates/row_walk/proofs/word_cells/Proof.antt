@@ -8,10 +8,10 @@ use borrow.Author.Needs.{needs}
 use Rattle.lent_mesh.specs.Stored.{inHand}
 use Rattle.sign_cells.specs.Cells.{cellsIn}
 use Rattle.sign_cells.proofs.LowestBits.{gone-less, onward-first}
-use Rattle.grid_walk.proofs.OneCell.{cell-of-row}
-use Rattle.grid_walk.proofs.WordLoop.{Walked, walked-found, walked-next, walked-last}
-use Rattle.grid_walk.proofs.word_cells.Statement.{statement}
-use Rattle.grid_walk.proofs.word_cells.Tie as tie
+use Rattle.row_walk.proofs.OneCell.{cell-of-row}
+use Rattle.row_walk.proofs.WordLoop.{Walked, walked-found, walked-next, walked-last}
+use Rattle.row_walk.proofs.word_cells.Statement.{statement}
+use Rattle.row_walk.proofs.word_cells.Tie as tie
 
 abbrev Inv-loop : tie.InvT-loop
 Inv-loop numbering rows regulars news coordinates slots samples n y z k quad mask class row work₀ vertices₀ indices₀ reached₀ rest₀ work vertices indices reached rest =

@@ -1,0 +1,2 @@
+pub mod OneCell
+pub mod WordLoop
