@@ -98,7 +98,7 @@ bench: build/bench/release/bench
 bench-peers: build/bench/release/bench
 	bench/peers build/bench/release/bench build/bench
 
-LISTING_SOURCES := $(shell find crates/listing crates/listing_words crates/listing_text -name '*.rt' -o -name '*.antt')
+LISTING_SOURCES := $(shell find crates/listing crates/listing_words crates/listing_runs crates/listing_text -name '*.rt' -o -name '*.antt')
 SOURCES := $(filter-out $(LISTING_SOURCES),$(shell find crates -name '*.rt' -o -name '*.antt'))
 
 build/archive/libbridgeyarn.a: $(SOURCES) | setup

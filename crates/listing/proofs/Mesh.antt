@@ -16,7 +16,8 @@ use Rattle.lent_mesh.proofs.Floats.{floatsOf-length}
 use Rattle.marching_cubes.specs.Outcome.{Outcome, workRoom, Surface, surfaceOf, over, refused, meshed, outcome}
 use Rattle.marching_cubes.proofs.Sizes.{square-le}
 use Rattle.marching_cubes.proofs.ByCause.{sample-bad, accepted, room-enough}
-use Rattle.listing_text.specs.Lines.{firstLine, refusedLine, linesOf, vertexLineAt, faceLineAt, meshText}
+use Rattle.listing_runs.specs.Runs.{linesOf, vertexLineAt, faceLineAt}
+use Rattle.listing_text.specs.Lines.{firstLine, refusedLine, meshText}
 use Rattle.listing.specs.Listing.{gridText}
 use Rattle.listing.proofs.Room.{made-le, indices-le}
 

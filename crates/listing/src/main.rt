@@ -1,16 +1,17 @@
 // The listing program of document 01: one sample record from standard input, sizes 2 to 7, and its
 // mesh or its refusal as text on standard output. What the text is stands in the contract of `list`;
 // `main` reads and writes.
-use listing_text::put_faces;
+use listing_runs::put_faces;
+use listing_runs::put_vertices;
 use listing_text::put_first;
 use listing_text::put_refused;
-use listing_text::put_vertices;
 ghost use mathlib.Core.Path.{_≡_};
 ghost use mathlib.Core.List.{_++_};
 ghost use Prim.Native.Nat.{_+_, _*_, _/_, _≤_};
 ghost use lib.ListN.{length, take};
 ghost use Rattle.listing_words.specs.Put.{Put};
-ghost use Rattle.listing_text.specs.Lines.{firstLine, linesOf, vertexLineAt, faceLineAt};
+ghost use Rattle.listing_runs.specs.Runs.{linesOf, vertexLineAt, faceLineAt};
+ghost use Rattle.listing_text.specs.Lines.{firstLine};
 ghost use Rattle.listing.specs.Listing.{gridText, listingOf};
 
 // The listing of a mesh that stands at the front of its buffers.

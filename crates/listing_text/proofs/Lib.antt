@@ -1,2 +1,1 @@
-mod Runs
 pub mod Cases

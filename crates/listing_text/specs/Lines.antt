@@ -1,22 +1,12 @@
--- The lines of document 01's listing, in ASCII, each ended by a newline. Held to W4's listing by `proofs/Cases.antt`.
+-- The lines of document 01's listing that stand alone, in ASCII, and the whole listing of a mesh. Held to W4's listing by `proofs/Cases.antt`.
 use mathlib.Core.Bool.{cond}
 use mathlib.Core.List.{List, [], _∷_, _++_}
-use Prim.Native.Nat.{ℕ, zero, suc, _+_, _*_, _/_}
+use Prim.Native.Nat.{ℕ, _/_}
 use lib.Dec.{eqb}
-use lib.ListN.{length, getD}
-use lib.Ieee.{Float, nan}
-use Rattle.listing_words.specs.Digits.{numberWord, floatWord}
-
-abbrev newline : List ℕ
-newline = 10 ∷ []
-
--- "v", three floats
-abbrev pub vertexLine : Float → Float → Float → List ℕ
-vertexLine x y z = (118 ∷ []) ++ floatWord x ++ floatWord y ++ floatWord z ++ newline
-
--- "f", three numbers
-abbrev pub faceLine : ℕ → ℕ → ℕ → List ℕ
-faceLine a b c = (102 ∷ []) ++ numberWord a ++ numberWord b ++ numberWord c ++ newline
+use lib.ListN.{length}
+use lib.Ieee.{Float}
+use Rattle.listing_words.specs.Digits.{numberWord}
+use Rattle.listing_runs.specs.Runs.{newline, linesOf, vertexLineAt, faceLineAt}
 
 -- "refused", the cause, " at", the place
 abbrev pub refusedLine : ℕ → ℕ → List ℕ
@@ -42,18 +32,6 @@ countWords vertices indices =
 
 abbrev pub firstLine : ℕ → ℕ → ℕ → ℕ → List ℕ
 firstLine size numbering vertices indices = sizeWords size numbering ++ countWords vertices indices
-
--- the lines of 0, 1, .. below the count
-abbrev pub linesOf : ℕ → (ℕ → List ℕ) → List ℕ
-linesOf zero line = []
-linesOf (suc i) line = linesOf i line ++ line i
-
--- line i has the floats 3i, 3i + 1 and 3i + 2
-abbrev pub vertexLineAt : List Float → ℕ → List ℕ
-vertexLineAt floats i = vertexLine (getD floats (3 * i) nan) (getD floats (3 * i + 1) nan) (getD floats (3 * i + 2) nan)
-
-abbrev pub faceLineAt : List ℕ → ℕ → List ℕ
-faceLineAt indices i = faceLine (getD indices (3 * i) 0) (getD indices (3 * i + 1) 0) (getD indices (3 * i + 2) 0)
 
 -- the listing of a mesh: its first line, its vertices and its triangles
 abbrev pub meshText : ℕ → ℕ → List Float → List ℕ → List ℕ

@@ -6,10 +6,10 @@ use native.Mathlib.Omega.{arith}
 use borrow.Author.Needs.{needs}
 use lib.ListN.{length}
 use Rattle.listing_words.specs.Put.{Put}
-use Rattle.listing_text.specs.Lines.{linesOf, vertexLineAt}
-use Rattle.listing_text.proofs.Runs.{put-line}
-use Rattle.listing_text.proofs.put_vertices.Statement.{statement}
-use Rattle.listing_text.proofs.put_vertices.Tie as tie
+use Rattle.listing_runs.specs.Runs.{linesOf, vertexLineAt}
+use Rattle.listing_runs.proofs.Runs.{put-line}
+use Rattle.listing_runs.proofs.put_vertices.Statement.{statement}
+use Rattle.listing_runs.proofs.put_vertices.Tie as tie
 
 abbrev Inv-loop : tie.InvT-loop
 Inv-loop text₀ at vertices count next₀ i₀ text next i =
