@@ -10,7 +10,8 @@ use Rattle.walk_models.specs.Owned.{cellsOfLayer}
 use Rattle.lent_mesh.specs.declared.Counts.{Counts}
 use Rattle.row_walk.specs.Steps.{rowParity}
 use Rattle.held_bits.specs.HeldCell.{Held, held, clearHeld}
-use Rattle.grid_count.specs.Steps.{countStep, endStep}
+use Rattle.row_count.specs.Steps.{countStep}
+use Rattle.grid_count.specs.Steps.{endStep}
 
 pub layer-done : (numbering n : ℕ) (g : Inside) (z row : ℕ) (work cleared : List ℕ) (counts : Counts) (here : Held)
     → row ≡ rowParity n (z + 1) 0

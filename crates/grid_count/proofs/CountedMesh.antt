@@ -18,7 +18,8 @@ use Rattle.row_walk.specs.Steps.{layerParity, rowParity}
 use Rattle.grid_walk.proofs.Layers.{parity-next}
 use Rattle.held_bits.specs.HeldCell.{Held, heldRoom}
 use Rattle.held_bits.proofs.HeldBorder.{Border, cell-kept, row-end-kept, layer-end-kept, start-border}
-use Rattle.grid_count.specs.Steps.{countIn, countStep, endStep, countSteps}
+use Rattle.row_count.specs.Steps.{countIn, countStep}
+use Rattle.grid_count.specs.Steps.{endStep, countSteps}
 
 pub record CountedMesh {C : Type 0} (n : ℕ) (old : List ℕ) (s : Mesh C) (t : Held) : Type 0 where
   pub made : t .made ≡ length (s .made)

@@ -10,7 +10,7 @@ use Rattle.walk_models.specs.Owned.{Count, countCell, cellsOfRow, cellsOfLayer}
 use Rattle.lent_mesh.specs.declared.Counts.{Counts}
 use Rattle.joined_slots.specs.OneCell.{countOf}
 use Rattle.held_bits.specs.HeldCell.{Held, held}
-use Rattle.grid_count.specs.Steps.{countIn, withCount, countStep}
+use Rattle.row_count.specs.Steps.{countIn, withCount, countStep}
 
 -- steps that change the count alone
 times-count : (f : ℕ → Held → Held) (h : ℕ → Count → Count) → ((i : ℕ) (s : Held) → f i s ≡ withCount s (h i (countIn s)))

@@ -1,4 +1,3 @@
-pub mod CountWord
 pub mod CountLayer
 pub mod JoinedLayer
 pub mod Spans

@@ -16,7 +16,8 @@ use Rattle.grid_walk.specs.Growth.{GrowsWithin}
 use Rattle.row_walk.proofs.OneCell.{parity-le}
 use Rattle.grid_walk.proofs.Layers.{parity-layer}
 use Rattle.held_bits.specs.HeldCell.{Held, held}
-use Rattle.grid_count.specs.Steps.{countIn, countStep, endStep, countSteps}
+use Rattle.row_count.specs.Steps.{countIn, countStep}
+use Rattle.grid_count.specs.Steps.{endStep, countSteps}
 use Rattle.grid_count.proofs.CountLayer.{layer-done}
 use Rattle.grid_count.proofs.Spans.{span-none}
 use Rattle.grid_count.proofs.count_grid.Statement.{statement}

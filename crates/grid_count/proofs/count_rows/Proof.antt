@@ -11,7 +11,7 @@ use Rattle.sign_cells.proofs.Turns.{Reached, reached-none, reached-next, reache
 use Rattle.row_walk.specs.Steps.{rowParity}
 use Rattle.grid_walk.proofs.Layers.{parity-next}
 use Rattle.held_bits.specs.HeldCell.{held}
-use Rattle.grid_count.specs.Steps.{countIn, countStep}
+use Rattle.row_count.specs.Steps.{countIn, countStep}
 use Rattle.grid_count.proofs.count_rows.Statement.{statement}
 use Rattle.grid_count.proofs.count_rows.Tie as tie
 

@@ -1,4 +1,4 @@
--- What each function of the count may rely on. A private model, which only the contracts of this crate cite; nobody need believe it.
+-- What each function of the count may rely on. A private model, which only the contracts of this crate and of grid_count cite; nobody need believe it.
 use mathlib.Core.Path.{_≡_}
 use mathlib.Core.List.{List}
 use Prim.Native.Nat.{ℕ, _+_, _^_, _≤_, _<_}

@@ -27,7 +27,7 @@ use Rattle.row_walk.specs.Steps.{layerParity, rowParity}
 use Rattle.held_bits.specs.Names.{nameWords}
 use Rattle.held_bits.specs.HeldCell.{Held, held, heldCell}
 use Rattle.held_bits.proofs.CellSteps.{heldCell-idle}
-use Rattle.grid_count.specs.Steps.{countIn, withCount, countStep}
+use Rattle.row_count.specs.Steps.{countIn, withCount, countStep}
 
 -- ---- one cell, from what the two numberings' own functions promise
 

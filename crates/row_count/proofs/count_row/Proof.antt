@@ -8,10 +8,10 @@ use Rattle.walk_models.specs.Owned.{cellsOfRow}
 use Rattle.lent_mesh.specs.Grid.{insideOf}
 use Rattle.sign_cells.proofs.Turns.{Reached, reached-no-word, reached-word, reached-row}
 use Rattle.held_bits.specs.HeldCell.{held}
-use Rattle.grid_count.specs.Steps.{countIn, countStep}
-use Rattle.grid_count.proofs.CountWord.{row-idle}
-use Rattle.grid_count.proofs.count_row.Statement.{statement}
-use Rattle.grid_count.proofs.count_row.Tie as tie
+use Rattle.row_count.specs.Steps.{countIn, countStep}
+use Rattle.row_count.proofs.CountWord.{row-idle}
+use Rattle.row_count.proofs.count_row.Statement.{statement}
+use Rattle.row_count.proofs.count_row.Tie as tie
 
 abbrev Inv-loop : tie.InvT-loop
 Inv-loop numbering news names low high samples n y z row work₀ class reached₀ k₀ work reached k =

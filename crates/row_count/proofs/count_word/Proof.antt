@@ -8,9 +8,9 @@ use borrow.Author.Needs.{needs}
 use Rattle.lent_mesh.specs.Grid.{insideOf}
 use Rattle.sign_cells.specs.Cells.{cellsIn}
 use Rattle.sign_cells.proofs.LowestBits.{gone-less, onward-first}
-use Rattle.grid_count.proofs.CountWord.{Counted, counted-found, counted-next, counted-last}
-use Rattle.grid_count.proofs.count_word.Statement.{statement}
-use Rattle.grid_count.proofs.count_word.Tie as tie
+use Rattle.row_count.proofs.CountWord.{Counted, counted-found, counted-next, counted-last}
+use Rattle.row_count.proofs.count_word.Statement.{statement}
+use Rattle.row_count.proofs.count_word.Tie as tie
 
 abbrev Inv-loop : tie.InvT-loop
 Inv-loop numbering news names samples n y z k quad mask class row work₀ made₀ written₀ rest₀ work made written rest =

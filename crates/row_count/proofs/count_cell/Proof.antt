@@ -5,9 +5,9 @@ use native.Mathlib.Omega.{arith}
 use borrow.Author.Needs.{needs}
 use Rattle.joined_edges.proofs.CellWords.{class-lt}
 use Rattle.row_walk.proofs.OneCell.{parity-le}
-use Rattle.grid_count.proofs.CountWord.{crate-step, joined-step}
-use Rattle.grid_count.proofs.count_cell.Statement.{statement}
-use Rattle.grid_count.proofs.count_cell.Tie as tie
+use Rattle.row_count.proofs.CountWord.{crate-step, joined-step}
+use Rattle.row_count.proofs.count_cell.Statement.{statement}
+use Rattle.row_count.proofs.count_cell.Tie as tie
 
 held-cell-requires : tie.Need-held-cell-requires
 held-cell-requires c κs =

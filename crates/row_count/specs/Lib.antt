@@ -1,0 +1,2 @@
+pub mod Countable
+pub mod Steps
