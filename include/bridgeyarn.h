@@ -146,7 +146,7 @@ typedef struct {
  *
  * After 0           the first 3 * V floats of coordinates and I words of indices hold the mesh; the rest of both is unchanged.
  * After any other   nothing lent has changed.
- * Definition: reading, crates/mesh_record/specs/Reading.antt. */
+ * Definition: reading, crates/mesh_read/specs/Reading.antt. */
 bridgeyarn_read_answer bridgeyarn_mesh_read(const uint8_t *bytes, size_t length,
     float *coordinates, size_t coordinate_room,           /* room in floats: 3 * V are needed */
     uint32_t *indices, size_t index_room);

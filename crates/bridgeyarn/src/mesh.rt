@@ -1,9 +1,9 @@
 // The writer and the reader of mesh records.
-use mesh_record::ReadAnswer;
+use mesh_read::ReadAnswer;
 use mesh_write::WriteAnswer;
 ghost use mathlib.Core.Path.{_≡_};
-ghost use Rattle.mesh_record.specs.Reading.{reading};
-ghost use Rattle.mesh_record.specs.Reading.{left as Reading·left};
+ghost use Rattle.mesh_read.specs.Reading.{reading};
+ghost use Rattle.mesh_read.specs.Reading.{left as Reading·left};
 ghost use Rattle.mesh_write.specs.Writing.{meshOf, left, writing};
 
 // The record of the lent coordinates and indices into the lent bytes; see `write_mesh`.
@@ -32,5 +32,5 @@ pub extern "C" fn bridgeyarn_mesh_read(
     ensures { λ r. ⌜ Reading·left r (now (coordinates .exit)) (now (indices .exit))
         ≡ reading (now (bytes .entry)) (now (coordinates .entry)) (now (indices .entry)) ⌝ }
 {
-    mesh_record::reader::read_mesh(bytes, coordinates, indices)
+    mesh_read::read_mesh(bytes, coordinates, indices)
 }

@@ -2,5 +2,4 @@ pub mod LowestBad
 pub mod Checks
 pub mod Contents
 pub mod Passed
-pub mod Copies
 mod Cases

@@ -1,14 +1,12 @@
--- What the reader of mesh records answers and leaves in the memory lent to it: document 02, CR 1.
-use mathlib.Core.Bool.{cond, not, _||_}
-use mathlib.Core.List.{List, map}
+-- The mesh that a record holds, and the first refusal of a record: document 02, CR 1.
+use mathlib.Core.Bool.{cond, not}
+use mathlib.Core.List.{List}
 use Prim.Native.Nat.{ℕ, _+_, _*_}
-use lib.Dec.{ltb, eqb}
+use lib.Dec.{ltb}
 use lib.ListN.{length}
-use lib.Ieee.{Float, binary32, ofBits}
-use Rattle.little_endian.specs.Words.{wordAt, wordsFrom, over}
+use Rattle.little_endian.specs.Words.{wordAt, wordsFrom}
 use Rattle.mesh_record.specs.declared.Refusal.{Refusal}
-use Rattle.mesh_record.specs.declared.ReadAnswer.{ReadAnswer}
-use Rattle.mesh_record.specs.Mesh.{Mesh, vertexCount}
+use Rattle.mesh_record.specs.Mesh.{Mesh}
 use Rattle.mesh_record.specs.Refusals.{malformed, none, orElse, differ, inThrees, opening, contents}
 
 -- the mesh that the words of a header point to
@@ -37,34 +35,3 @@ unfoldable pub refusalIn : List ℕ → Refusal
 refusalIn bytes =
     cond (ltb (length bytes) 28) (malformed (length bytes))
     (orElse (opening (wordAt bytes 0) (wordAt bytes 4) (wordAt bytes 8)) (orElse (fieldsIn bytes) (contents 28 (meshIn bytes))))
-
--- everything that the call leaves
-pub record Read : Type 0 where
-  pub answer : ReadAnswer
-  pub coordinates : List Float
-  pub indices : List ℕ
-
-abbrev pub left : ReadAnswer → List Float → List ℕ → Read
-left answer coordinates indices = record { answer = answer; coordinates = coordinates; indices = indices }
-
-abbrev pub refused : Refusal → ReadAnswer
-refused r = record { cause = r .cause; size = 0; numbering = 0; place = r .place; vertices = 0; indices = 0 }
-
--- cause 10, with the room needed
-abbrev pub short : Mesh → ReadAnswer
-short m = record { cause = 10; size = 0; numbering = 0; place = 0; vertices = vertexCount m; indices = length (m .indices) }
-
-abbrev pub done : Mesh → ReadAnswer
-done m = record { cause = 0; size = m .size; numbering = m .numbering; place = 0; vertices = vertexCount m; indices = length (m .indices) }
-
--- a mesh into the front of both buffers, where both have the room
-unfoldable pub copied : Mesh → List Float → List ℕ → Read
-copied m coordinates indices =
-    cond (ltb (length coordinates) (length (m .coordinates)) || ltb (length indices) (length (m .indices))) (left (short m) coordinates indices)
-    (left (done m) (over (map (ofBits binary32) (m .coordinates)) coordinates) (over (m .indices) indices))
-
--- a refusal changes nothing
-unfoldable pub reading : List ℕ → List Float → List ℕ → Read
-reading bytes coordinates indices =
-    let r = refusalIn bytes in
-    cond (eqb (r .cause) 0) (copied (meshIn bytes) coordinates indices) (left (refused r) coordinates indices)

@@ -1,5 +1,5 @@
-// The mesh record of document 02, CR 1: its checks, which the writer makes too, and its reader. What
-// is lent is written only after every check has passed.
+// The mesh record of document 02, CR 1: the checks that the reader and the writer share, and in
+// `reader` the refusals of a record.
 pub mod reader;
 
 ghost use mathlib.Core.Path.{_≡_};
@@ -10,17 +10,6 @@ ghost use Rattle.mesh_record.specs.Mesh.{finite};
 pub struct Refusal {
     pub cause: u32,
     pub place: u64,
-}
-
-// What the reader answers. A field that the cause does not use is 0.
-#[repr(C)]
-pub struct ReadAnswer {
-    pub cause: u32,
-    pub size: u32,
-    pub numbering: u32,
-    pub place: u64,
-    pub vertices: u64,
-    pub indices: u64,
 }
 
 pub fn refused(cause: u32, place: u64) -> Refusal

@@ -1,19 +1,16 @@
-// The reader: the refusals in document 02's order, then the room, then the copy.
-use crate::ReadAnswer;
+// The refusals of a record, in document 02's order.
 use crate::Refusal;
 use crate::is_finite;
 use crate::opening;
 use crate::refused;
-use little_endian::runs::copy_floats;
-use little_endian::runs::copy_words;
 use little_endian::word_at;
 ghost use mathlib.Core.Path.{_≡_};
-ghost use Prim.Native.Nat.{_+_, _*_, _≤_, _<_};
+ghost use Prim.Native.Nat.{_+_, _*_, _≤_};
 ghost use lib.ListN.{length};
 ghost use Rattle.little_endian.specs.Words.{wordAt, wordsFrom};
 ghost use Rattle.mesh_record.specs.Mesh.{finite, below};
 ghost use Rattle.mesh_record.specs.Refusals.{lowestBad, contents};
-ghost use Rattle.mesh_record.specs.Reading.{meshIn, fieldsIn, refusalIn, left, copied, reading};
+ghost use Rattle.mesh_record.specs.Reading.{meshIn, fieldsIn, refusalIn};
 
 // The fields after the numbering, and the length. No product passes 2^36.
 fn fields_in(bytes: &[u8]) -> Refusal
@@ -104,62 +101,4 @@ pub fn refusal_in(bytes: &[u8]) -> Refusal
         return second;
     }
     contents_in(bytes)
-}
-
-// The mesh of a record in which nothing is refused, where there is room for it.
-fn copy_mesh(bytes: &[u8], coordinates: &mut [f32], indices: &mut [u32]) -> ReadAnswer
-    requires { ⌜ length (now bytes) ≡ 28 + 12 * wordAt (now bytes) 12 + 4 * wordAt (now bytes) 20 ⌝ }
-    ensures { λ r. ⌜ left r (now (coordinates .exit)) (now (indices .exit)) ≡ copied (meshIn (now (bytes .entry))) (now (coordinates .entry)) (now (indices .entry)) ⌝ }
-{
-    let vertices = word_at(bytes, 12) as usize;
-    let count = word_at(bytes, 20) as usize;
-    if coordinates.len() < 3 * vertices {
-        return short(vertices, count);
-    }
-    if indices.len() < count {
-        return short(vertices, count);
-    }
-    copy_floats(bytes, 28, 3 * vertices, coordinates);
-    copy_words(bytes, 28 + 12 * vertices, count, indices);
-    ReadAnswer {
-        cause: 0,
-        size: word_at(bytes, 4),
-        numbering: word_at(bytes, 8),
-        place: 0,
-        vertices: vertices as u64,
-        indices: count as u64,
-    }
-}
-
-// The mesh of a record, or the first refusal in document 02's order. After 0 the coordinates and the
-// indices stand at the start of both buffers and the rest is unchanged; after anything else nothing
-// lent has changed, and after 10 the answer has the V and I to make room for.
-pub fn read_mesh(bytes: &[u8], coordinates: &mut [f32], indices: &mut [u32]) -> ReadAnswer
-    ensures whole { λ r. ⌜ left r (now (coordinates .exit)) (now (indices .exit)) ≡ reading (now (bytes .entry)) (now (coordinates .entry)) (now (indices .entry)) ⌝ }
-{
-    let first = refusal_in(bytes);
-    if first.cause != 0 {
-        return ReadAnswer {
-            cause: first.cause,
-            size: 0,
-            numbering: 0,
-            place: first.place,
-            vertices: 0,
-            indices: 0,
-        };
-    }
-    copy_mesh(bytes, coordinates, indices)
-}
-
-fn short(vertices: usize, indices: usize) -> ReadAnswer
-    ensures { λ r. ⌜ r ≡ record { cause = 10; size = 0; numbering = 0; place = 0; vertices = vertices; indices = indices } ⌝ }
-{
-    ReadAnswer {
-        cause: 10,
-        size: 0,
-        numbering: 0,
-        place: 0,
-        vertices: vertices as u64,
-        indices: indices as u64,
-    }
 }

@@ -32,8 +32,9 @@ use Rattle.marching_cubes.proofs.ByCause.{accepted, room-enough}
 use Rattle.marching_cubes.proofs.Demands.{demand-3}
 use Rattle.mesh_record.specs.Mesh.{Mesh, vertexCount, recordBytes, Good}
 use Rattle.mesh_record.specs.Refusals.{none}
-use Rattle.mesh_record.specs.Reading.{meshIn, reading}
-use Rattle.mesh_record.specs.Reading.{left as Reading·left}
+use Rattle.mesh_record.specs.Reading.{meshIn}
+use Rattle.mesh_read.specs.Reading.{reading}
+use Rattle.mesh_read.specs.Reading.{left as Reading·left}
 use Rattle.mesh_record.proofs.Passed.{neither-left, neither-right}
 use Rattle.mesh_write.specs.Writing.{meshOf, refusalOf, Written, writing}
 use Rattle.mesh_round_trip.proofs.FiniteBits.{number, Floats, bits-small, bits-finite}

@@ -15,11 +15,12 @@ use Rattle.little_endian.proofs.Bytes.{Below}
 use Rattle.mesh_record.specs.declared.Refusal.{Refusal}
 use Rattle.mesh_record.specs.Mesh.{Mesh, vertexCount, recordBytes, Good}
 use Rattle.mesh_record.specs.Refusals.{none, opening, contents}
-use Rattle.mesh_record.specs.Reading.{Read, meshIn, refusalIn, refused, short, done, copied, reading}
-use Rattle.mesh_record.specs.Reading.{left as Reading·left}
+use Rattle.mesh_record.specs.Reading.{meshIn, refusalIn}
+use Rattle.mesh_read.specs.Reading.{Read, refused, short, done, copied, reading}
+use Rattle.mesh_read.specs.Reading.{left as Reading·left}
 use Rattle.mesh_record.proofs.Checks.{opening-passed}
 use Rattle.mesh_record.proofs.Passed.{part-passed, opening-known, contents-known}
-use Rattle.mesh_record.proofs.Copies.{copied-done, reading-passed}
+use Rattle.mesh_read.proofs.Copies.{copied-done, reading-passed}
 use Rattle.mesh_round_trip.proofs.Records.{contents-none, record-holds, record-accepted, accepted-good, accepted-again}
 use Rattle.mesh_round_trip.proofs.FiniteBits.{Floats, floats-of-bits, bits-of-floats, bits-small}
 use Rattle.mesh_write.specs.Writing.{meshOf, fieldsOf, refusalOf, Written, left, answered, put, writing}

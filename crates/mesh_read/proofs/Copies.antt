@@ -1,4 +1,4 @@
--- What the reader leaves, by the room of the two buffers and by the refusal. `reader::copy_mesh` and `reader::read_mesh` cite these.
+-- What the reader leaves, by the room of the two buffers and by the refusal. `copy_mesh` and `read_mesh` cite these.
 use mathlib.Core.Path.{_≡_, sym, ap, ap₂, _∙_}
 use mathlib.Core.Logic.{_≢_}
 use mathlib.Core.List.{List, map}
@@ -8,10 +8,11 @@ use lib.ListN.{length}
 use lib.Ieee.{Float, binary32, ofBits}
 use borrow.Author.Tests.{lt-ltb, le-ltb, eq-eqb, ne-eqb}
 use Rattle.little_endian.specs.Words.{wordAt, wordsFrom, over}
-use Rattle.mesh_record.specs.declared.ReadAnswer.{ReadAnswer}
+use Rattle.mesh_read.specs.declared.ReadAnswer.{ReadAnswer}
 use Rattle.mesh_record.specs.Mesh.{Mesh}
-use Rattle.mesh_record.specs.Reading.{meshIn, refusalIn, left, refused, short, done, copied, reading}
+use Rattle.mesh_record.specs.Reading.{meshIn, refusalIn}
+use Rattle.mesh_read.specs.Reading.{left, refused, short, done, copied, reading}
 use Rattle.mesh_record.proofs.Contents.{coordinates-length, indices-length, meshIn-vertices}
 
 module _ (m : Mesh) (coordinates : List Float) (indices : List ℕ) where
   pub copied-few-coordinates : length coordinates < length (m .coordinates) → left (short m) coordinates indices ≡ copied m coordinates indices

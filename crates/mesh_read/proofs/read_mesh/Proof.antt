@@ -1,12 +1,12 @@
--- `reader::read_mesh`: a refusal leaves both buffers, and what passed has the length that the copy asks for.
+-- `read_mesh`: a refusal leaves both buffers, and what passed has the length that the copy asks for.
 use mathlib.Core.Path.{sym, ap, _∙_}
 use Rattle.mesh_record.specs.declared.Refusal.{Refusal}
-use Rattle.mesh_record.specs.Reading.{left, refused}
+use Rattle.mesh_read.specs.Reading.{left, refused}
 use Rattle.mesh_record.proofs.Passed.{refusalIn-known}
-use Rattle.mesh_record.proofs.Copies.{reading-refused, reading-passed}
+use Rattle.mesh_read.proofs.Copies.{reading-refused, reading-passed}
 use borrow.Author.Needs.{needs}
-use Rattle.mesh_record.proofs.reader.read_mesh.Statement.{statement}
-use Rattle.mesh_record.proofs.reader.read_mesh.Tie as tie
+use Rattle.mesh_read.proofs.read_mesh.Statement.{statement}
+use Rattle.mesh_read.proofs.read_mesh.Tie as tie
 
 refusal-in-requires : tie.Need-refusal-in-requires
 refusal-in-requires c κs = search needs

@@ -1,9 +1,9 @@
--- `reader::copy_mesh`: both rooms are tried before anything is written; then one copy each.
+-- `copy_mesh`: both rooms are tried before anything is written; then one copy each.
 use native.Mathlib.Omega.{arith}
-use Rattle.mesh_record.proofs.Copies.{few-coordinates, few-indices, enough-room}
+use Rattle.mesh_read.proofs.Copies.{few-coordinates, few-indices, enough-room}
 use borrow.Author.Needs.{needs}
-use Rattle.mesh_record.proofs.reader.copy_mesh.Statement.{statement}
-use Rattle.mesh_record.proofs.reader.copy_mesh.Tie as tie
+use Rattle.mesh_read.proofs.copy_mesh.Statement.{statement}
+use Rattle.mesh_read.proofs.copy_mesh.Tie as tie
 
 word-at-requires : tie.Need-word-at-requires
 word-at-requires c κs = search needs
