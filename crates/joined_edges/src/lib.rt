@@ -110,7 +110,8 @@ fn new_word(news: &[u64; 2048], case: usize, class: usize) -> u64
     news[256 * class + case]
 }
 
-// The new edges of a cell are made, by its word in `news`.
+// The new edges of a cell are made, by its word in `news`. An inner cell has marks in it; where the cells
+// around are active too, the compiler cannot know which edges are crossed, and the list is faster.
 fn make_new(
     news: &[u64; 2048],
     samples: &[f32],
@@ -123,6 +124,7 @@ fn make_new(
     at: usize,
     case: usize,
     class: usize,
+    dense: bool,
     work: &mut [u32],
     vertices: &mut [f32],
     counts: Counts,
@@ -136,7 +138,7 @@ fn make_new(
     ensures { λ r. ⌜ (r .made ≡ counts .made + length (newEdges (ownedIn class) (rowEdges case))) × (r .written ≡ counts .written) ⌝ }
 {
     let word = new_word(news, case, class);
-    if class == 0 {
+    if (class == 0) & !dense {
         inner_cells::make_inner(
             samples,
             coordinates,
@@ -173,7 +175,8 @@ fn make_new(
 }
 
 // One cell. Its case is its sign byte, its class says which of its edges it owns; there is a word for
-// each case in `rows` and for each class and case in `news`.
+// each case in `rows` and for each class and case in `news`. `dense` may be either: it says only how the edges
+// are made.
 pub fn joined_cell(
     rows: &[u64; 256],
     news: &[u64; 2048],
@@ -186,6 +189,7 @@ pub fn joined_cell(
     z: usize,
     case: usize,
     class: usize,
+    dense: bool,
     work: &mut [u32],
     vertices: &mut [f32],
     indices: &mut [u32],
@@ -213,6 +217,7 @@ pub fn joined_cell(
         at,
         case,
         class,
+        dense,
         work,
         vertices,
         counts,

@@ -29,6 +29,7 @@ fn one_cell(
     z: usize,
     case: usize,
     class: usize,
+    dense: bool,
     row: usize,
     work: &mut [u32],
     vertices: &mut [f32],
@@ -74,6 +75,7 @@ fn one_cell(
             z,
             case,
             class,
+            dense,
             work,
             vertices,
             indices,
@@ -82,7 +84,8 @@ fn one_cell(
     }
 }
 
-// The cells of word k of row y that the mask has a bit for, from the lowest.
+// The cells of word k of row y that the mask has a bit for, from the lowest. Where nearly all have one the
+// word is dense.
 fn word_cells(
     numbering: u32,
     rows: &[u64; 256],
@@ -113,6 +116,7 @@ fn word_cells(
         ≡ times (cellsIn n k) (λ i t. cellStep numbering n (now (samples .entry)) z y (32 * k + i) t) (inHand (now (work .entry)) (now (vertices .entry)) (now (indices .entry)) counts) ⌝ }
     ensures { λ r. ⌜ (r .written ≤ counts .written + 480) × (r .made ≤ r .written) ⌝ }
 {
+    let dense = u32::count_ones(mask) > 27;
     let mut reached = counts;
     let mut rest = mask;
     while rest != 0 {
@@ -134,6 +138,7 @@ fn word_cells(
             z,
             case,
             here,
+            dense,
             row,
             work,
             vertices,

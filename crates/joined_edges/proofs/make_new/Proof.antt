@@ -1,10 +1,13 @@
--- `make_new`: a cell of class 0 is made by its marks, any other by its list, with the same edges.
-use mathlib.Core.Path.{refl, sym, ap, _∙_}
+-- `make_new`: a cell of class 0 can be made by its marks, and any by its list, with the same edges.
+use mathlib.Core.Path.{_≡_, refl, sym, ap, _∙_}
+use mathlib.Core.Bool.{Bool, true, false, _&&_}
 use mathlib.Core.List.{List}
 use Prim.Native.Nat.{ℕ, _+_}
 use native.Mathlib.Nat.{le-trans}
 use lib.ListN.{getD}
+use lib.Dec.{eqb}
 use borrow.Author.Needs.{needs}
+use borrow.Author.Tests.{eqb-true}
 use Rattle.walk_models.specs.Owned.{makeEdge}
 use Rattle.packed_tables.specs.Packed.{rowWords}
 use Rattle.lent_mesh.specs.Stored.{storeAt, inHand}
@@ -20,6 +23,10 @@ held c =
     let start = c .before .before .before .before in
     let known = start .pre .1 .0 in
     words _ _ _ rowWords (start .args .news .now) (known .2) (known .1) refl (known .0) (c .new-word .ensures)
+
+left-of : (p q : Bool) → (p && q) ≡ true → p ≡ true
+left-of true q e = refl
+left-of false q e = e
 
 new-word-requires : tie.Need-new-word-requires
 new-word-requires c κs = search needs
@@ -44,7 +51,7 @@ same-length c = search needs
 same-length-2 : tie.Need-same-length-2
 same-length-2 c = search needs
 
--- class 0
+-- by marks
 returns : tie.Need-returns
 returns c =
     let inner = c .before .before .before .before in
@@ -56,7 +63,7 @@ returns c =
     let known = start .pre .1 .0 in
     let w = held word in
     let counts = inner .make-inner .ensures .1 in
-    let m = inner-marks _ _ _ (args .news .now) (class .if1 .taken) (known .1) (known .0) (word .new-word .ensures) in (
+    let m = inner-marks _ _ _ (args .news .now) (eqb-true _ 0 (left-of (eqb (args .class) 0) _ (class .if1 .taken))) (known .1) (known .0) (word .new-word .ensures) in (
       λ l.
           inner-made (args .samples .now) (args .n) (args .x) (args .y) (args .z) _ _ _ _ (cell .in-x) (cell .in-y) w m (args .work .now) l _
           (args .vertices .now) _ (args .counts .made) (args .counts .written) _ _ (inner .make-inner .ensures .0 l) (counts .0) (counts .1),
@@ -69,7 +76,7 @@ same-length-3 c = search needs
 same-length-4 : tie.Need-same-length-4
 same-length-4 c = search needs
 
--- any other class
+-- by the list
 returns-2 : tie.Need-returns-2
 returns-2 c =
     let all = c .before .before .before .before in

@@ -14,11 +14,11 @@ use Rattle.row_walk.proofs.word_cells.Statement.{statement}
 use Rattle.row_walk.proofs.word_cells.Tie as tie
 
 abbrev Inv-loop : tie.InvT-loop
-Inv-loop numbering rows regulars news coordinates slots samples n y z k quad mask class row work₀ vertices₀ indices₀ reached₀ rest₀ work vertices indices reached rest =
+Inv-loop numbering rows regulars news coordinates slots samples n y z k quad mask class row work₀ vertices₀ indices₀ dense reached₀ rest₀ work vertices indices reached rest =
     Walked numbering n samples z y k (inHand work₀ vertices₀ indices₀ reached₀) (inHand work vertices indices reached) mask rest × (length work ≡ length work₀) × (length vertices ≡ length vertices₀) × (length indices ≡ length indices₀)
 
 abbrev μ-loop : tie.MeasureT-loop
-μ-loop numbering rows regulars news coordinates slots samples n y z k quad mask class row work₀ vertices₀ indices₀ reached₀ rest₀ work vertices indices reached rest =
+μ-loop numbering rows regulars news coordinates slots samples n y z k quad mask class row work₀ vertices₀ indices₀ dense reached₀ rest₀ work vertices indices reached rest =
     rest
 
 -- the lowest bit left is a cell of the word, and the cells before it have no more than 15 indices each
