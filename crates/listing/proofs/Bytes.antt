@@ -12,7 +12,7 @@ use borrow.Author.Tests.{eq-eqb, ne-eqb}
 use Rattle.sample_record.specs.declared.Record.{Record}
 use Rattle.sample_record.specs.declared.Record.the-variants.{Holds, Malformed, BadSize, BadNumbering, BadCount}
 use Rattle.sample_record.specs.Record.{causeOf, placeOf, sizeOf, numberingOf, recordOf}
-use Rattle.sample_record.specs.Samples.{samplesOf, copied}
+use Rattle.record_samples.specs.Samples.{samplesOf, copied}
 use Rattle.sample_record.proofs.Accepted.{Accepted, recordOf-accepted}
 use Rattle.listing_words.specs.Put.{Put}
 use Rattle.listing_text.specs.Lines.{refusedLine}

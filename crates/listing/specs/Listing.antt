@@ -6,7 +6,7 @@ use lib.Dec.{eqb, ltb}
 use lib.ListN.{length}
 use lib.Ieee.{Float}
 use Rattle.sample_record.specs.Record.{recordOf, causeOf, placeOf, sizeOf, numberingOf}
-use Rattle.sample_record.specs.Samples.{samplesOf}
+use Rattle.record_samples.specs.Samples.{samplesOf}
 use Rattle.sample_check.specs.Samples.{lowestBad}
 use Rattle.lent_mesh.specs.Grid.{positionAt, floatsOf}
 use Rattle.marching_cubes.specs.Outcome.{Surface, surfaceOf}

@@ -78,7 +78,7 @@ fn list(bytes: &[u8], text: &mut [u8]) -> usize
     let size = sample_record::size(answer);
     let numbering = sample_record::numbering(answer);
     let mut samples = [0.0f32; 392];
-    sample_record::samples::copy_samples(bytes, &mut samples);
+    record_samples::copy_samples(bytes, &mut samples);
     let n = size as usize;
     let count = n * n * (n + 1);
     list_grid(text, size, numbering, &samples[..count])

@@ -7,7 +7,7 @@ use lib.ListN.{length, take, drop, length-drop, length-map, length-take}
 use lib.Ieee.{Float, binary32, ofBits}
 use Rattle.little_endian.specs.Words.{words, wordsFrom, over}
 use Rattle.little_endian.proofs.Words.{words-length}
-use Rattle.sample_record.specs.Samples.{samplesOf, copied}
+use Rattle.record_samples.specs.Samples.{samplesOf, copied}
 
 map-take : (f : ℕ → Float) (n : ℕ) (l : List ℕ) → map f (take n l) ≡ take n (map f l)
 map-take f zero l = refl

@@ -3,7 +3,7 @@ use little_endian::runs::copy_floats;
 ghost use mathlib.Core.Path.{_≡_};
 ghost use Prim.Native.Nat.{min};
 ghost use lib.ListN.{length};
-ghost use Rattle.sample_record.specs.Samples.{samplesOf, copied};
+ghost use Rattle.record_samples.specs.Samples.{samplesOf, copied};
 
 // How many samples are copied.
 fn copied_count(bytes: &[u8], room: usize) -> usize

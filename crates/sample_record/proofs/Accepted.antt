@@ -11,8 +11,8 @@ use borrow.Author.Tests.{ltb-false, eqb-true, not-false}
 use Rattle.sample_record.specs.declared.Record.the-variants.{Holds, Malformed, BadSize, BadNumbering, BadCount}
 use Rattle.little_endian.specs.Words.{wordAt}
 use Rattle.sample_record.specs.Record.{sampleCount, recordOf, causeOf, sizeOf, numberingOf}
-use Rattle.sample_record.specs.Samples.{samplesOf}
-use Rattle.sample_record.proofs.Copy.{samplesOf-length}
+use Rattle.record_samples.specs.Samples.{samplesOf}
+use Rattle.record_samples.proofs.Copy.{samplesOf-length}
 
 pub record Accepted (limit : ℕ) (bytes : List ℕ) (size numbering : ℕ) : Type 0 where
   pub least : 2 ≤ size

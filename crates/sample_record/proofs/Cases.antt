@@ -11,7 +11,7 @@ use Rattle.sample_record.specs.declared.Record.{Record}
 use Rattle.sample_record.specs.declared.Record.the-variants.{Holds, Malformed, BadSize, BadNumbering, BadCount}
 use Rattle.little_endian.specs.Words.{wordAt}
 use Rattle.sample_record.specs.Record.{recordOf}
-use Rattle.sample_record.specs.Samples.{samplesOf}
+use Rattle.record_samples.specs.Samples.{samplesOf}
 
 -- a word below 2 ^ 16, lowest byte first
 small : ℕ → List ℕ

@@ -1,8 +1,6 @@
 // The sample record of document 01, "Record and listing": five little-endian u32, then the samples.
 // The bytes are only read. A size is tested against the limit before any product is made of it, so
 // that no bytes make one overflow.
-pub mod samples;
-
 use little_endian::word_at;
 ghost use mathlib.Core.Path.{_≡_};
 ghost use Prim.Native.Nat.{_<_};

@@ -7,7 +7,7 @@ use lib.ListN.{length, take, replicate}
 use lib.Seq.{length-take-le}
 use lib.Ieee.{Float, binary32, ofBits}
 use Rattle.sample_record.specs.Record.{causeOf, placeOf, sizeOf, numberingOf}
-use Rattle.sample_record.specs.Samples.{samplesOf}
+use Rattle.record_samples.specs.Samples.{samplesOf}
 use Rattle.sample_record.proofs.Accepted.{Accepted}
 use Rattle.listing.proofs.Bytes.{accepted-of, sampleCount-le, lent-samples, listing-refused, listing-grid, front-of}
 use borrow.Author.Needs.{needs}

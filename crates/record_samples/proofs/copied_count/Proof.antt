@@ -1,9 +1,9 @@
 -- `samples::copied_count`: the number of samples by `samplesOf-length`, and the lesser of the two.
 use native.Mathlib.Omega.{arith}
 use borrow.Author.Needs.{needs}
-use Rattle.sample_record.proofs.Copy.{samplesOf-length}
-use Rattle.sample_record.proofs.samples.copied_count.Statement.{statement}
-use Rattle.sample_record.proofs.samples.copied_count.Tie as tie
+use Rattle.record_samples.proofs.Copy.{samplesOf-length}
+use Rattle.record_samples.proofs.copied_count.Statement.{statement}
+use Rattle.record_samples.proofs.copied_count.Tie as tie
 
 returns : tie.Need-returns
 returns c = omega (arith, samplesOf-length (c .before .args .bytes .now))

@@ -1,10 +1,10 @@
 -- `samples::copy_samples`: where there is a sample to copy, the bytes have the run that is copied.
 use mathlib.Core.Path.{_∙_}
 use native.Mathlib.Omega.{arith}
-use Rattle.sample_record.proofs.Copy.{copied-none, copied-run, run-within}
+use Rattle.record_samples.proofs.Copy.{copied-none, copied-run, run-within}
 use borrow.Author.Needs.{needs}
-use Rattle.sample_record.proofs.samples.copy_samples.Statement.{statement}
-use Rattle.sample_record.proofs.samples.copy_samples.Tie as tie
+use Rattle.record_samples.proofs.copy_samples.Statement.{statement}
+use Rattle.record_samples.proofs.copy_samples.Tie as tie
 
 copied-count-requires : tie.Need-copied-count-requires
 copied-count-requires c κs = search needs
