@@ -1,42 +1,18 @@
 // The calls about Morton keys. Level, parent, child, half-size and center refuse a bad key with
 // cause 9; the sum and the difference take any two words.
-use morton::Length;
-use morton::Number;
-use morton::Point;
+use key_answer::HalfSizeAnswer;
+use key_answer::KeyAnswer;
 ghost use mathlib.Core.Path.{_≡_};
 ghost use Rattle.morton.specs.Answer.{levelOf, parentOf, childOf, halfSizeOf, centerOf, pointCause};
 ghost use Rattle.morton.specs.Interleaved.{sumOf, differenceOf};
-ghost use Rattle.bridgeyarn.specs.Key.{keyAnswer, halfSizeAnswer, centerLeft};
-
-// A level or a key; 0 where refused.
-#[repr(C)]
-pub struct KeyAnswer {
-    pub cause: u32,
-    pub value: u64,
-}
-
-// A half-size; 0.0 where refused.
-#[repr(C)]
-pub struct HalfSizeAnswer {
-    pub cause: u32,
-    pub value: f32,
-}
-
-fn key_answer(number: Number) -> KeyAnswer
-    ensures { λ r. ⌜ r ≡ keyAnswer number ⌝ }
-{
-    match number {
-        Number::Is(value) => KeyAnswer { cause: 0, value },
-        Number::Refused => KeyAnswer { cause: 9, value: 0 },
-    }
-}
+ghost use Rattle.key_answer.specs.Key.{keyAnswer, halfSizeAnswer, centerLeft};
 
 // The level of a key.
 #[no_mangle]
 pub extern "C" fn bridgeyarn_morton_level(key: u64) -> KeyAnswer
     ensures { λ r. ⌜ r ≡ keyAnswer (levelOf key) ⌝ }
 {
-    key_answer(morton::level(key))
+    key_answer::level(key)
 }
 
 // The key of the cell around this one, never below 1.
@@ -44,7 +20,7 @@ pub extern "C" fn bridgeyarn_morton_level(key: u64) -> KeyAnswer
 pub extern "C" fn bridgeyarn_morton_parent(key: u64) -> KeyAnswer
     ensures { λ r. ⌜ r ≡ keyAnswer (parentOf key) ⌝ }
 {
-    key_answer(morton::parent(key))
+    key_answer::parent(key)
 }
 
 // The key of a cell within this one; refused at level 21, and for a child above 7.
@@ -52,7 +28,7 @@ pub extern "C" fn bridgeyarn_morton_parent(key: u64) -> KeyAnswer
 pub extern "C" fn bridgeyarn_morton_child(key: u64, which: u32) -> KeyAnswer
     ensures { λ r. ⌜ r ≡ keyAnswer (childOf key which) ⌝ }
 {
-    key_answer(morton::child(key, which))
+    key_answer::child(key, which)
 }
 
 // Half the side of the key's cell.
@@ -60,14 +36,7 @@ pub extern "C" fn bridgeyarn_morton_child(key: u64, which: u32) -> KeyAnswer
 pub extern "C" fn bridgeyarn_morton_half_size(key: u64) -> HalfSizeAnswer
     ensures { λ r. ⌜ r ≡ halfSizeAnswer (halfSizeOf key) ⌝ }
 {
-    let length = morton::half_size(key);
-    match length {
-        Length::Is(value) => HalfSizeAnswer { cause: 0, value },
-        Length::Refused => HalfSizeAnswer {
-            cause: 9,
-            value: 0.0,
-        },
-    }
+    key_answer::half_size(key)
 }
 
 // The center of the key's cell; what is lent stays as it was where refused.
@@ -75,14 +44,7 @@ pub extern "C" fn bridgeyarn_morton_half_size(key: u64) -> HalfSizeAnswer
 pub extern "C" fn bridgeyarn_morton_center(key: u64, center: &mut [f32; 3]) -> u32
     ensures { λ r. ⌜ (r ≡ pointCause (centerOf key)) × (now (center .exit) ≡ centerLeft (centerOf key) (now (center .entry))) ⌝ }
 {
-    let point = morton::center(key);
-    match point {
-        Point::At(p) => {
-            *center = [p.x, p.y, p.z];
-            0
-        }
-        Point::Refused => 9,
-    }
+    key_answer::center(key, center)
 }
 
 // The sum on each axis, modulo 2^22 for x and 2^21 for y and z.

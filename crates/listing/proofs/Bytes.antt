@@ -11,7 +11,9 @@ use lib.Ieee.{Float}
 use borrow.Author.Tests.{eq-eqb, ne-eqb}
 use Rattle.sample_record.specs.declared.Record.{Record}
 use Rattle.sample_record.specs.declared.Record.the-variants.{Holds, Malformed, BadSize, BadNumbering, BadCount}
-use Rattle.sample_record.specs.Record.{causeOf, placeOf, sizeOf, numberingOf, recordOf}
+use Rattle.sample_record.specs.Record.{causeOf, sizeOf, numberingOf, recordOf}
+use Rattle.record_answer.specs.declared.RecordAnswer.{RecordAnswer}
+use Rattle.record_answer.specs.Record.{recordAnswer}
 use Rattle.record_samples.specs.Samples.{samplesOf, copied}
 use Rattle.sample_record.proofs.Accepted.{Accepted, recordOf-accepted}
 use Rattle.listing_words.specs.Put.{Put}
@@ -42,18 +44,18 @@ lent-samples bytes buffer count whole room =
 
 -- ---- the definition by its test
 
-module _ (bytes : List ℕ) (cause : ℕ) (is : cause ≡ causeOf (recordOf 7 bytes)) where
-  pub listing-refused : (place : ℕ) → place ≡ placeOf (recordOf 7 bytes) → (cause ≡ 0 → ⊥) → listingOf bytes ≡ refusedLine cause place
-  listing-refused place at some = rw (ne-eqb (causeOf (recordOf 7 bytes)) 0 (λ z. some (is ∙ z)), at, is) refl
+module _ (bytes : List ℕ) (answer : RecordAnswer) (is : answer ≡ recordAnswer (recordOf 7 bytes)) where
+  pub listing-refused : (answer .cause ≡ 0 → ⊥) → listingOf bytes ≡ refusedLine (answer .cause) (answer .place)
+  listing-refused some = rw (is, ne-eqb (causeOf (recordOf 7 bytes)) 0 (λ z. some (ap (λ (a : RecordAnswer). a .cause) is ∙ z))) refl
 
-  pub listing-grid : (size numbering : ℕ) (samples : List Float) → size ≡ sizeOf (recordOf 7 bytes) → numbering ≡ numberingOf (recordOf 7 bytes)
-      → samples ≡ samplesOf bytes → cause ≡ 0 → listingOf bytes ≡ gridText size numbering samples
-  listing-grid size numbering samples s w g none = rw (eq-eqb (causeOf (recordOf 7 bytes)) 0 (sym is ∙ none), s, w, g) refl
+  pub listing-grid : (samples : List Float) → samples ≡ samplesOf bytes → answer .cause ≡ 0
+      → listingOf bytes ≡ gridText (answer .size) (answer .numbering) samples
+  listing-grid samples g none = rw (is, eq-eqb (causeOf (recordOf 7 bytes)) 0 (sym (ap (λ (a : RecordAnswer). a .cause) is) ∙ none), g) refl
 
-  pub accepted-of : cause ≡ 0 → (size numbering : ℕ) → size ≡ sizeOf (recordOf 7 bytes) → numbering ≡ numberingOf (recordOf 7 bytes)
-      → Accepted 7 bytes size numbering
-  accepted-of none size numbering s w =
-      rw (s, w) (recordOf-accepted 7 bytes (sizeOf (recordOf 7 bytes)) (numberingOf (recordOf 7 bytes)) (holds-of (recordOf 7 bytes) (sym is ∙ none)))
+  pub accepted-of : answer .cause ≡ 0 → Accepted 7 bytes (answer .size) (answer .numbering)
+  accepted-of none =
+      rw (is) (recordOf-accepted 7 bytes (sizeOf (recordOf 7 bytes)) (numberingOf (recordOf 7 bytes))
+      (holds-of (recordOf 7 bytes) (sym (ap (λ (a : RecordAnswer). a .cause) is) ∙ none)))
 
 -- the text at the front of the program's buffer
 pub front-of : (text new piece : List ℕ) (end : ℕ) → Put text 0 piece new end → end ≤ 191622 → 191622 ≤ length text → take end new ≡ piece

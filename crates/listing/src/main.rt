@@ -69,19 +69,15 @@ fn list(bytes: &[u8], text: &mut [u8]) -> usize
     ensures { λ r. ⌜ take r (now (text .exit)) ≡ listingOf (now (bytes .entry)) ⌝ }
     ensures { λ r. ⌜ r ≤ 191622 ⌝ }
 {
-    let answer = sample_record::record_in(bytes, 7);
-    let cause = sample_record::cause(answer);
-    if cause != 0 {
-        let place = sample_record::place(answer) as u64;
-        return put_refused(text, 0, cause, place);
+    let found = record_answer::record_answer(bytes, 7);
+    if found.cause != 0 {
+        return put_refused(text, 0, found.cause, found.place);
     }
-    let size = sample_record::size(answer);
-    let numbering = sample_record::numbering(answer);
     let mut samples = [0.0f32; 392];
     record_samples::copy_samples(bytes, &mut samples);
-    let n = size as usize;
+    let n = found.size as usize;
     let count = n * n * (n + 1);
-    list_grid(text, size, numbering, &samples[..count])
+    list_grid(text, found.size, found.numbering, &samples[..count])
 }
 
 // A record of size 7 has 1,588 bytes; one more shows that a record is longer.

@@ -4,7 +4,7 @@
 use little_endian::word_at;
 ghost use mathlib.Core.Path.{_≡_};
 ghost use Prim.Native.Nat.{_<_};
-ghost use Rattle.sample_record.specs.Record.{sampleCount, recordOf, causeOf, placeOf, sizeOf, numberingOf};
+ghost use Rattle.sample_record.specs.Record.{sampleCount, recordOf};
 
 // What a record answers: what it holds, or the first of the refusals in document 01's order. A
 // malformed one says at which byte.
@@ -58,62 +58,4 @@ pub fn record_in(bytes: &[u8], limit: u16) -> Record
         return Record::Malformed(20);
     }
     Record::Holds { size, numbering }
-}
-
-// Document 01's number of an answer's cause: 0 where the record holds a grid.
-pub fn cause(answer: Record) -> u32
-    ensures { λ r. ⌜ r ≡ causeOf answer ⌝ }
-{
-    match answer {
-        Record::Holds {
-            size: _,
-            numbering: _,
-        } => 0,
-        Record::Malformed(_) => 8,
-        Record::BadSize => 1,
-        Record::BadNumbering => 2,
-        Record::BadCount => 3,
-    }
-}
-
-// The byte place of a malformed record, else 0.
-pub fn place(answer: Record) -> usize
-    ensures { λ r. ⌜ r ≡ placeOf answer ⌝ }
-{
-    match answer {
-        Record::Holds {
-            size: _,
-            numbering: _,
-        } => 0,
-        Record::Malformed(at) => at,
-        Record::BadSize => 0,
-        Record::BadNumbering => 0,
-        Record::BadCount => 0,
-    }
-}
-
-// The size of the grid, 0 where refused.
-pub fn size(answer: Record) -> u32
-    ensures { λ r. ⌜ r ≡ sizeOf answer ⌝ }
-{
-    match answer {
-        Record::Holds { size, numbering: _ } => size,
-        Record::Malformed(_) => 0,
-        Record::BadSize => 0,
-        Record::BadNumbering => 0,
-        Record::BadCount => 0,
-    }
-}
-
-// The numbering word, 0 where refused.
-pub fn numbering(answer: Record) -> u32
-    ensures { λ r. ⌜ r ≡ numberingOf answer ⌝ }
-{
-    match answer {
-        Record::Holds { size: _, numbering } => numbering,
-        Record::Malformed(_) => 0,
-        Record::BadSize => 0,
-        Record::BadNumbering => 0,
-        Record::BadCount => 0,
-    }
 }

@@ -1,3 +1,0 @@
-pub mod Edge
-pub mod Key
-pub mod Record
