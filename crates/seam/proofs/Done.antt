@@ -29,6 +29,7 @@ abbrev caused : List Guarded → Bool
 caused [] = true
 caused (g ∷ gs) = ltb 0 (g .given .answer .cause) && caused gs
 
+-- an outcome with a cause is passed over
 past : (test : Bool) (o p q : Outcome) → T (ltb 0 (o .answer .cause)) → (p .answer .cause ≡ 0 → p ≡ q)
     → cond test o p .answer .cause ≡ 0 → cond test o p ≡ q
 past true o p q e next h = absurd (subst (λ (k : ℕ). T (ltb 0 k)) h e)
