@@ -1,16 +1,17 @@
 -- Of one cell, by its eight signs, computed over all 256 of them: its triangles by corners, faces and opposite corners, and its new edges by the ends of eight.
-use mathlib.Core.Path.{_≡_}
+use mathlib.Core.Path.{_≡_, _∙_}
 use mathlib.Core.Bool.{Bool, true, false, not, _&&_}
 use Prim.Native.Nat.{ℕ, _+_, _*_, _/_, _≤_}
 use lib.Dec.{T, eqb, eqb→eq, leb, leb→le}
 use lib.ListN.{length}
 use Rattle.walk.specs.Walk.{bit}
 use Rattle.walk.specs.Ownership.{owned, newEdges}
-use Rattle.walk.proofs.EightSigns.{allEight, allEight-at}
+use Rattle.walk.proofs.EightSigns.{allTwo, allTwo-at, allEight, allEight-at}
 use Rattle.marching_cubes_tables.proofs.Tests.{both-left, both-right}
-use Rattle.marching_cubes_tables.specs.Rule.{rowEdges}
+use Rattle.marching_cubes_tables.specs.Rule.{rowEdges, member}
 use Rattle.marching_cubes_tables.specs.Tables.{triangleConnection}
 use Rattle.corner_signs.specs.Signs.{rowOf, insideAt, facesAt, wholeAt, oppositeAt, crossingAt}
+use Rattle.corner_signs.proofs.NewCount.{passing, allEdges, newEdges-count}
 
 abbrev trianglesHold : Bool → Bool → Bool → Bool → Bool → Bool → Bool → Bool → Bool
 trianglesHold p q r s t u v w =
@@ -27,33 +28,24 @@ pub triangles-hold : (p q r s t u v w : Bool)
 triangles-hold p q r s t u v w = eqb→eq _ _ (allEight-at trianglesHold triangles-all p q r s t u v w)
 
 abbrev newHold : Bool → Bool → Bool → Bool → Bool → Bool → Bool → Bool → Bool → Bool → Bool
-newHold x0 y0 p q r s t u v w = eqb (length (newEdges (owned x0 y0 false) (rowOf p q r s t u v w))) (crossingAt x0 y0 p q r s t u v w)
+newHold x0 y0 p q r s t u v w = eqb (passing (λ d. owned x0 y0 false d && member d (rowOf p q r s t u v w)) 12) (crossingAt x0 y0 p q r s t u v w)
 
-both-all : T (allEight (newHold true true))
-unfolding rowEdges triangleConnection newEdges owned
-both-all = tt
+new-all : T (allTwo (λ x0 y0. allEight (newHold x0 y0)))
+unfolding rowEdges triangleConnection owned
+new-all = tt
 
-first-all : T (allEight (newHold true false))
-unfolding rowEdges triangleConnection newEdges owned
-first-all = tt
+abbrev edgesHold : Bool → Bool → Bool → Bool → Bool → Bool → Bool → Bool → Bool
+edgesHold p q r s t u v w = allEdges (rowOf p q r s t u v w)
 
-top-all : T (allEight (newHold false true))
-unfolding rowEdges triangleConnection newEdges owned
-top-all = tt
-
-inner-all : T (allEight (newHold false false))
-unfolding rowEdges triangleConnection newEdges owned
-inner-all = tt
-
-new-all : (x0 y0 : Bool) → T (allEight (newHold x0 y0))
-new-all true true = both-all
-new-all true false = first-all
-new-all false true = top-all
-new-all false false = inner-all
+edges-all : T (allEight edgesHold)
+unfolding rowEdges triangleConnection
+edges-all = tt
 
 pub new-hold : (x0 y0 p q r s t u v w : Bool)
     → length (newEdges (owned x0 y0 false) (rowOf p q r s t u v w)) ≡ crossingAt x0 y0 p q r s t u v w
-new-hold x0 y0 p q r s t u v w = eqb→eq _ _ (allEight-at (newHold x0 y0) (new-all x0 y0) p q r s t u v w)
+new-hold x0 y0 p q r s t u v w =
+    newEdges-count (owned x0 y0 false) (rowOf p q r s t u v w) (allEight-at edgesHold edges-all p q r s t u v w)
+    ∙ eqb→eq _ _ (allEight-at (newHold x0 y0) (allTwo-at (λ x0 y0. allEight (newHold x0 y0)) new-all x0 y0) p q r s t u v w)
 
 abbrev mostHold : Bool → Bool → Bool → Bool → Bool → Bool → Bool → Bool → Bool
 mostHold p q r s t u v w = leb (length (rowOf p q r s t u v w) / 3) 5 && eqb (3 * (length (rowOf p q r s t u v w) / 3)) (length (rowOf p q r s t u v w))

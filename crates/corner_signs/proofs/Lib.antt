@@ -1,1 +1,2 @@
+pub mod NewCount
 pub mod Identities

@@ -1,21 +1,45 @@
 -- What `extract` has left where its answer is cause 0: the surface, written from the start of both outputs.
-use mathlib.Core.Path.{_≡_, refl, sym, _∙_}
-use mathlib.Core.Bool.{Bool, true, false, cond, not, _||_}
-use mathlib.Core.List.{List, map}
-use Prim.Native.Nat.{ℕ, suc, _+_, _*_}
-use native.Mathlib.Omega.{arith}
-use lib.Dec.{eqb, ltb}
+use mathlib.Core.Path.{_≡_, refl, subst}
+use mathlib.Core.Bool.{Bool, true, false, cond, not, _&&_, _||_}
+use mathlib.Core.List.{List, [], _∷_, map}
+use Prim.Native.Nat.{ℕ, _+_, _*_}
+use lib.Dec.{T, eqb, ltb}
 use lib.ListN.{length}
 use lib.Ieee.{Float}
 use Rattle.lent_mesh.specs.Grid.{positionAt, floatsOf}
 use Rattle.sample_check.specs.Samples.{lowestBad}
+use Rattle.marching_cubes_tables.proofs.Tests.{both-left, both-right}
 use Rattle.marching_cubes.specs.Outcome.{Outcome, workRoom, Surface, surfaceOf, over, refused, meshed, filled, outcome}
 
--- an outcome with another cause is passed over
-past : (cause : ℕ) (test : Bool) (o p q : Outcome) → o .answer .cause ≡ suc cause → (p .answer .cause ≡ 0 → p ≡ q)
+-- an outcome that is given where a test holds
+record Guarded : Type 0 where
+  test : Bool
+  given : Outcome
+
+abbrev guarded : Bool → Outcome → Guarded
+guarded test given = record { test = test; given = given }
+
+-- the first whose test holds, else the last
+abbrev chain : List Guarded → Outcome → Outcome
+chain [] last = last
+chain (g ∷ gs) last = cond (g .test) (g .given) (chain gs last)
+
+-- each has a cause
+abbrev caused : List Guarded → Bool
+caused [] = true
+caused (g ∷ gs) = ltb 0 (g .given .answer .cause) && caused gs
+
+-- an outcome with a cause is passed over
+past : (test : Bool) (o p q : Outcome) → T (ltb 0 (o .answer .cause)) → (p .answer .cause ≡ 0 → p ≡ q)
     → cond test o p .answer .cause ≡ 0 → cond test o p ≡ q
-past cause true o p q e next h = absurd (let z : suc cause ≡ 0 = sym e ∙ h in omega arith)
-past cause false o p q e next h = next h
+past true o p q e next h = absurd (subst (λ (k : ℕ). T (ltb 0 k)) h e)
+past false o p q e next h = next h
+
+chain-last : (gs : List Guarded) (last : Outcome) → T (caused gs) → chain gs last .answer .cause ≡ 0 → chain gs last ≡ last
+chain-last [] last t h = refl
+chain-last (g ∷ gs) last t h =
+    past (g .test) (g .given) (chain gs last) last (both-left (ltb 0 (g .given .answer .cause)) (caused gs) t)
+    (chain-last gs last (both-right (ltb 0 (g .given .answer .cause)) (caused gs) t)) h
 
 module _ (n numbering : ℕ) (samples : List Float) (work : List ℕ) (vertices : List Float) (indices : List ℕ) where
   abbrev pub done : Outcome
@@ -28,11 +52,13 @@ module _ (n numbering : ℕ) (samples : List Float) (work : List ℕ) (vertices 
   outcome-done =
       let s : Surface = surfaceOf n numbering samples in
       let refusal = refused n numbering samples work vertices indices in
-      past 0 (ltb n 2 || ltb 128 n) (refusal 1 0) _ done refl
-      (past 1 (ltb 1 numbering) (refusal 2 0) _ done refl
-      (past 2 (not (eqb (length samples) (n * n * (n + 1)))) (refusal 3 0) _ done refl
-      (past 3 (ltb (length work) (workRoom n)) (refusal 4 0) _ done refl
-      (past 4 (ltb (lowestBad samples) (length samples)) (refusal 5 (lowestBad samples)) _ done refl
-      (past 5 (ltb (length vertices) (3 * length (s .made))) (meshed n numbering samples work vertices indices 6 s vertices indices) _ done refl
-      (past 6 (ltb (length indices) (length (s .indices))) (meshed n numbering samples work vertices indices 7 s vertices indices) done done refl
-      (λ h. refl)))))))
+      chain-last
+      (guarded (ltb n 2 || ltb 128 n) (refusal 1 0)
+      ∷ guarded (ltb 1 numbering) (refusal 2 0)
+      ∷ guarded (not (eqb (length samples) (n * n * (n + 1)))) (refusal 3 0)
+      ∷ guarded (ltb (length work) (workRoom n)) (refusal 4 0)
+      ∷ guarded (ltb (lowestBad samples) (length samples)) (refusal 5 (lowestBad samples))
+      ∷ guarded (ltb (length vertices) (3 * length (s .made))) (meshed n numbering samples work vertices indices 6 s vertices indices)
+      ∷ guarded (ltb (length indices) (length (s .indices))) (meshed n numbering samples work vertices indices 7 s vertices indices)
+      ∷ [])
+      done tt
