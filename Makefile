@@ -86,7 +86,7 @@ crate-table:
 
 # from nothing: every crate, every must-fail edit, every program; nothing may come after it
 prove: setup
-	rt ci
+	tools/prove
 
 # the library for this machine beside the Rust, in one process; peers that were timed before are listed with it
 bench: build/bench/release/bench

@@ -1,2 +1,1 @@
-pub mod NewCount
 pub mod Identities

@@ -16,10 +16,11 @@ use Rattle.marching_cubes_tables.specs.Rule.{rowEdges, bitAt, member}
 use Rattle.walk.specs.Walk.{bit, times}
 use Rattle.walk.proofs.Below.{allBelow, allBelow-at}
 use Rattle.walk.proofs.Bools.{bool-cases}
+use Rattle.walk.proofs.NewEdges.{newEdges-length-le}
 use Rattle.packed_tables.specs.Unpacked.{Edges}
 use Rattle.held_bits.specs.Names.{nameWords}
 use Rattle.held_bits.specs.HeldCell.{Held, layerWord, rowWord, namedSet, firstMade, heldSet, newSet, putSet, heldCell, clearHeld}
-use Rattle.held_bits.proofs.EdgeSets.{edgeAt, Has, newEdges-le, newSet-ones}
+use Rattle.held_bits.proofs.EdgeSets.{edgeAt, Has, newSet-ones}
 use Rattle.held_bits.proofs.NameWords.{afterFirst, first, Names, name-word, after-edges}
 use Rattle.held_bits.proofs.HeldBits.{some-bit, heldSet-lt}
 
@@ -37,7 +38,7 @@ some-set w i h =
 new-le : (es : List ℕ) (named has : ℕ) → Edges es → named < 4096 → has < 4096 → Has named (λ e. member e es) → ones (newSet named has) ≤ length es
 new-le es named has each p q set =
     let e = newSet-ones es named has (λ e. eqb (bitAt has (edgeAt e)) 1) each p q set (some-set has) in
-    let l = newEdges-le es (λ e. not (eqb (bitAt has (edgeAt e)) 1)) in
+    let l = newEdges-length-le (λ e. not (eqb (bitAt has (edgeAt e)) 1)) es in
     omega arith
 
 first-and-after : (es : List ℕ) → first es + length (afterFirst es) ≡ length es

@@ -1,11 +1,10 @@
 -- Sets of edges as bits of a word, and how many edges a set has: the new edges of a row are counted by the set that has its edges and lacks those
 -- that are held.
 use mathlib.Core.Path.{_≡_, refl, sym, ap, ap₂, _∙_, subst}
-use mathlib.Core.Logic.{_⊎_, ⊎-elim}
-use mathlib.Core.Bool.{Bool, true, false, cond, not, _&&_, _||_, and-false, true≢false}
-use mathlib.Core.List.{List, [], _∷_}
-use Prim.Native.Nat.{ℕ, zero, suc, _+_, _/_, _%_, _^_, _≤_, _<_}
-use native.Mathlib.Nat.{div-one, not-suc-le-zero, le-of-suc-le-suc}
+use mathlib.Core.Bool.{Bool, true, false, cond, not, _&&_, _||_}
+use mathlib.Core.List.{List}
+use Prim.Native.Nat.{ℕ, zero, suc, _+_, _/_, _%_, _^_, _<_}
+use native.Mathlib.Nat.{div-one}
 use native.Mathlib.Numerals.{add-one}
 use native.Mathlib.Omega.{arith}
 use lib.Bits.{bitOr, bitXor, or-lt, xor-lt}
@@ -13,36 +12,16 @@ use lib.Count.{ones, ones-step, ones-le}
 use lib.Dec.{eqb}
 use lib.ListN.{length}
 use lib.Pow.{shr-lt}
-use borrow.Author.Tests.{eqb-true, ne-eqb, eq-eqb}
 use Rattle.marching_cubes_tables.specs.Rule.{bitAt, member}
 use Rattle.walk.specs.Walk.{bit}
 use Rattle.walk.specs.Ownership.{newEdges}
-use Rattle.walk.proofs.Bools.{bool-cases}
+use Rattle.walk.proofs.NewEdges.{counted, newEdges-counted}
 use Rattle.packed_tables.specs.Unpacked.{Edges}
+use Rattle.packed_tables.proofs.PackedEdges.{edges-each}
 use Rattle.sign_words.proofs.OneBit.{or-bit, xor-bit, shift-bit}
 use Rattle.held_bits.specs.HeldCell.{newSet}
 
--- ---- how many of f 0, f 1, .. f (k - 1) are true
-
-unfoldable pub counted : ℕ → (ℕ → Bool) → ℕ
-counted zero f = 0
-counted (suc k) f = bit (f 0) + counted k (λ i. f (suc i))
-
-pub counted-ext : (k : ℕ) (f h : ℕ → Bool) → ((i : ℕ) → i < k → f i ≡ h i) → counted k f ≡ counted k h
-unfolding counted
-counted-ext zero f h e = refl
-counted-ext (suc k) f h e = ap₂ (λ (b : Bool) (m : ℕ). bit b + m) (e 0 (omega arith)) (counted-ext k _ _ (λ i l. e (suc i) (omega arith)))
-
--- alike but at one place
-counted-one : (k e : ℕ) (f h : ℕ → Bool) → e < k → f e ≡ true → h e ≡ false → ((i : ℕ) → (i ≡ e → ⊥) → f i ≡ h i) → counted k f ≡ suc (counted k h)
-unfolding counted
-counted-one zero e f h l t u s = absurd (not-suc-le-zero l)
-counted-one (suc k) zero f h l t u s =
-    let same = counted-ext k (λ i. f (suc i)) (λ i. h (suc i)) (λ i li. s (suc i) (λ q. omega arith)) in
-    rw (t, u) (omega arith)
-counted-one (suc k) (suc e) f h l t u s =
-    let next = counted-one k e (λ i. f (suc i)) (λ i. h (suc i)) (le-of-suc-le-suc l) t u (λ i n. s (suc i) (λ q. n (omega arith))) in
-    rw (s 0 (λ q. omega arith)) (omega arith)
+-- ---- how many edges a set has
 
 pub ones-counted : (k w : ℕ) (f : ℕ → Bool) → w < 2 ^ k → ((i : ℕ) → i < k → bitAt w i ≡ bit (f i)) → ones w ≡ counted k f
 unfolding counted
@@ -70,46 +49,6 @@ Has word f = (i : ℕ) → i < 12 → bitAt word i ≡ bit (f (edgeAt i))
 pub ones-edges : (w : ℕ) (f : ℕ → Bool) → w < 4096 → Has w f → ones w ≡ counted 12 f
 ones-edges w f h b = ones-counted 12 w (λ i. f (edgeAt i)) h b ∙ counted-exchanged f
 
--- ---- the new edges of a row
-
-pub newEdges-le : (es : List ℕ) (new : ℕ → Bool) → length (newEdges new es) ≤ length es
-unfolding newEdges
-newEdges-le [] new = omega arith
-newEdges-le (e ∷ es) new =
-    ⊎-elim
-    (λ (t : new e ≡ true). let h = newEdges-le es (λ d. new d && not (eqb d e)) in rw t (omega arith))
-    (λ (t : new e ≡ false). let h = newEdges-le es new in rw t (omega arith))
-    (bool-cases (new e))
-
-pub newEdges-counted : (es : List ℕ) (new : ℕ → Bool) → Edges es → length (newEdges new es) ≡ counted 12 (λ e. member e es && new e)
-unfolding newEdges Edges counted
-newEdges-counted [] new h = refl
-newEdges-counted (e ∷ es) new h =
-    ⊎-elim
-    (λ (t : new e ≡ true).
-    let later : ℕ → Bool = λ d. new d && not (eqb d e) in
-    let same : eqb e e ≡ true = eq-eqb e e refl in
-    rw t
-    (ap suc (newEdges-counted es later (h .1))
-    ∙ sym (counted-one 12 e (λ d. (eqb d e || member d es) && new d) (λ d. member d es && (new d && not (eqb d e))) (h .0) (rw (same, t)) (rw (same, t, and-false (member e es)))
-    (λ i n. let other : eqb i e ≡ false = ne-eqb i e n in rw other (at-other (member i es) (new i))))))
-    (λ (t : new e ≡ false).
-    rw t
-    (newEdges-counted es new (h .1)
-    ∙ counted-ext 12 (λ d. member d es && new d) (λ d. (eqb d e || member d es) && new d) (λ i l. held (eqb i e) (member i es) (new i) (λ q. ap new (eqb-true i e q) ∙ t))))
-    (bool-cases (new e))
-  where
-    at-other : (m w : Bool) → (m && w) ≡ (m && (w && true))
-    at-other true true = refl
-    at-other true false = refl
-    at-other false w = refl
-
-    held : (q m w : Bool) → (q ≡ true → w ≡ false) → (m && w) ≡ ((q || m) && w)
-    held true m true f = absurd (true≢false (f refl))
-    held true true false f = refl
-    held true false false f = refl
-    held false m w f = refl
-
 -- ---- named and not held
 
 not-held : (a b : Bool) → bitXor (bit (a || b)) (bit b) ≡ bit (a && not b)
@@ -133,4 +72,4 @@ pub newSet-ones : (es : List ℕ) (named held : ℕ) (h : ℕ → Bool) → Edge
     → ones (newSet named held) ≡ length (newEdges (λ e. not (h e)) es)
 newSet-ones es named held h each p q a b =
     ones-edges (newSet named held) (λ e. member e es && not (h e)) (newSet-lt named held p q) (newSet-has named held (λ e. member e es) h a b)
-    ∙ sym (newEdges-counted es (λ e. not (h e)) each)
+    ∙ sym (newEdges-counted es (λ e. not (h e)) (edges-each es each))

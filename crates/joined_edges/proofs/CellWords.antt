@@ -11,14 +11,16 @@ use Rattle.marching_cubes_tables.proofs.Rule.{row-rule}
 use Rattle.walk.specs.Walk.{Visit, Inside, bit, signs, cellEdges}
 use Rattle.walk.specs.Ownership.{owned, newEdges}
 use Rattle.walk.proofs.SignByte.{signs-lt}
+use Rattle.walk.proofs.NewEdges.{newEdges-length-le}
 use Rattle.walk_models.specs.Lent.{Lent}
 use Rattle.walk_models.specs.Owned.{cellNew, makeEdge, nameEdge, ownedCell, Count, countCell}
 use Rattle.packed_tables.specs.Unpacked.{Edges}
 use Rattle.packed_tables.specs.Packed.{ownedIn, rowWords, newWords}
+use Rattle.packed_tables.proofs.PackedEdges.{edges-of-each}
 use Rattle.packed_tables.proofs.Words.{inThrees, oneByOne, indicesOf, row-word, new-word, new-word-row}
 use Rattle.joined_slots.specs.OneCell.{each, classOf}
 use Rattle.joined_edges.proofs.PackedSteps.{unpacked-length}
-use Rattle.joined_edges.proofs.NewEdges.{edges-of, newEdges-edges, newEdges-length-le}
+use Rattle.joined_edges.proofs.NewEdges.{newEdges-edges}
 
 -- ---- by class and sign byte
 
@@ -39,7 +41,7 @@ words-hold : (class s row fresh : ℕ) → s < 256 → inThrees row ≡ rowEdges
     → indicesOf fresh ≡ length (rowEdges s) → Words class s row fresh
 words-hold class s row fresh hs er en ei =
     let rule = row-rule s hs in
-    let all : Edges (rowEdges s) = edges-of (rowEdges s) (rule .edge) in
+    let all : Edges (rowEdges s) = edges-of-each (rowEdges s) (rule .edge) in
     let row-count : length (rowEdges s) ≡ 3 * (row / 2 ^ 60) = sym (ap length er) ∙ unpacked-length (3 * (row / 2 ^ 60)) (row % 2 ^ 60) in
     let new-count : length (newEdges (ownedIn class) (rowEdges s)) ≡ fresh / 2 ^ 60 =
     sym (ap length en) ∙ unpacked-length (fresh / 2 ^ 60) (fresh % 2 ^ 60) in

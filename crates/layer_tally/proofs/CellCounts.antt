@@ -13,9 +13,9 @@ use Rattle.walk.specs.Walk.{Inside, cellEdges, times}
 use Rattle.walk.specs.Ownership.{owned, newEdges}
 use Rattle.walk.proofs.EightSigns.{cellEdges-byte}
 use Rattle.walk.proofs.CellEdges.{cellEdges-threes}
+use Rattle.walk.proofs.NewEdges.{newEdges-length-le}
 use Rattle.walk_models.specs.Owned.{Count, cellNew, countCell}
 use Rattle.sign_cells.specs.Cells.{cellsIn}
-use Rattle.joined_edges.proofs.NewEdges.{newEdges-length-le}
 use Rattle.cell_tally.specs.declared.Corners.{Corners}
 use Rattle.corner_signs.specs.Signs.{rowOf}
 use Rattle.cell_tally.specs.Tally.{total, isSet, inMask, ofSigns, trianglesIn, newIn}

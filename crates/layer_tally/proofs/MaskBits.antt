@@ -15,6 +15,7 @@ use Rattle.marching_cubes_tables.specs.Rule.{bitAt}
 use Rattle.walk.specs.Walk.{bit}
 use Rattle.sign_words.specs.Words.{wordOf}
 use Rattle.sign_words.proofs.Words.{wordOf-bit, wordOf-of-bits, wordOf-top}
+use Rattle.sign_words.proofs.KeptBits.{every}
 use Rattle.sign_cells.specs.Cells.{cellsIn}
 use Rattle.cell_tally.specs.Tally.{isSet}
 use Rattle.cell_tally.proofs.SetBits.{bit-set}
@@ -25,12 +26,8 @@ isSet-of w i p e = ap (λ (x : ℕ). eqb x 1) e ∙ bit-set p
 
 -- ---- the cells of a word
 
-every : 0xFFFF_FFFF ≡ wordOf (λ i. true) 32
-unfolding wordOf
-every = refl
-
 pub every-set : (j : ℕ) → j < 32 → isSet 0xFFFF_FFFF j ≡ true
-every-set j h = isSet-of 0xFFFF_FFFF j true (ap (λ (w : ℕ). bitAt w j) every ∙ wordOf-bit (λ i. true) 32 j h)
+every-set j h = isSet-of 0xFFFF_FFFF j true (ap (λ (w : ℕ). bitAt w j) (sym every) ∙ wordOf-bit (λ i. true) 32 j h)
 
 module _ (n k : ℕ) where
   abbrev isCell : ℕ → Bool
@@ -41,7 +38,7 @@ module _ (n k : ℕ) where
       let some : 0xFFFF_FFFF % 2 ^ cellsIn n k ≡ wordOf isCell (cellsIn n k) =
       wordOf-of-bits 0xFFFF_FFFF (cellsIn n k) isCell
       (λ i l.
-      ap (λ (w : ℕ). bitAt w i) every
+      ap (λ (w : ℕ). bitAt w i) (sym every)
       ∙ wordOf-bit (λ j. true) 32 i (omega arith)
       ∙ ap bit (sym (lt-ltb (32 * k + i + 1) n (omega arith)))) in
       let rest : wordOf isCell (cellsIn n k + (32 - cellsIn n k)) ≡ wordOf isCell (cellsIn n k) =

@@ -2,6 +2,7 @@
 use mathlib.Core.Path.{_≡_, refl, ap, subst}
 use mathlib.Core.List.{List, [], _∷_}
 use Prim.Native.Nat.{ℕ, zero, suc, _-_, _*_, _/_, _%_, _<_}
+use native.Mathlib.Nat.{not-suc-le-zero, le-of-suc-le-suc}
 use native.Mathlib.Omega.{arith}
 use lib.ListN.{length, getD}
 use Rattle.packed_tables.specs.Unpacked.{unpacked, Edges}
@@ -21,6 +22,12 @@ pub edges-of-each : (es : List ℕ) → ((j : ℕ) → j < length es → getD es
 unfolding Edges
 edges-of-each [] h = tt
 edges-of-each (e ∷ es) h = (h 0 (omega arith), edges-of-each es (λ j l. h (suc j) (omega arith)))
+
+pub edges-each : (es : List ℕ) → Edges es → (j : ℕ) → j < length es → getD es j 0 < 12
+unfolding Edges
+edges-each [] h j l = absurd (not-suc-le-zero l)
+edges-each (e ∷ es) h zero l = h .0
+edges-each (e ∷ es) h (suc j) l = edges-each es (h .1) j (le-of-suc-le-suc l)
 
 -- the first of the edges that are left, and the others
 pub edges-first : (left rest : ℕ) → 0 < left → Edges (unpacked left rest) → rest % 16 < 12

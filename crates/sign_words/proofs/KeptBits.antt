@@ -24,7 +24,7 @@ wordOf-and f g =
 
 -- ---- every bit, and every bit but one
 
-every : wordOf (λ i. true) 32 ≡ 0xFFFF_FFFF
+pub every : wordOf (λ i. true) 32 ≡ 0xFFFF_FFFF
 unfolding wordOf
 every = refl
 

@@ -9,6 +9,7 @@ pub mod FirstUse
 pub mod Rank
 pub mod Home
 pub mod Ownership
+pub mod NewEdges
 pub mod NewVisits
 pub mod OwnedCells
 pub mod Crossings

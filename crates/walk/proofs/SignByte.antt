@@ -15,7 +15,7 @@ bit-lt : (b : Bool) → bit b < 2
 bit-lt true = omega arith
 bit-lt false = omega arith
 
-byteOf-lt : (bs : List Bool) → byteOf bs < 2 ^ length bs
+pub byteOf-lt : (bs : List Bool) → byteOf bs < 2 ^ length bs
 byteOf-lt [] = omega arith
 byteOf-lt (b ∷ bs) = let h = byteOf-lt bs in let l = bit-lt b in let e = two-pow-succ (length bs) in omega arith
 

@@ -1,6 +1,5 @@
 -- `make_new`: a cell of class 0 can be made by its marks, and any by its list, with the same edges.
 use mathlib.Core.Path.{_≡_, refl, sym, ap, _∙_}
-use mathlib.Core.Bool.{Bool, true, false, _&&_}
 use mathlib.Core.List.{List}
 use Prim.Native.Nat.{ℕ, _+_}
 use native.Mathlib.Nat.{le-trans}
@@ -8,6 +7,7 @@ use lib.ListN.{getD}
 use lib.Dec.{eqb}
 use borrow.Author.Needs.{needs}
 use borrow.Author.Tests.{eqb-true}
+use Rattle.walk.proofs.Bools.{and-left}
 use Rattle.walk_models.specs.Owned.{makeEdge}
 use Rattle.packed_tables.specs.Packed.{rowWords}
 use Rattle.lent_mesh.specs.Stored.{storeAt, inHand}
@@ -23,10 +23,6 @@ held c =
     let start = c .before .before .before .before in
     let known = start .pre .1 .0 in
     words _ _ _ rowWords (start .args .news .now) (known .2) (known .1) refl (known .0) (c .new-word .ensures)
-
-left-of : (p q : Bool) → (p && q) ≡ true → p ≡ true
-left-of true q e = refl
-left-of false q e = e
 
 new-word-requires : tie.Need-new-word-requires
 new-word-requires c κs = search needs
@@ -63,7 +59,7 @@ returns c =
     let known = start .pre .1 .0 in
     let w = held word in
     let counts = inner .make-inner .ensures .1 in
-    let m = inner-marks _ _ _ (args .news .now) (eqb-true _ 0 (left-of (eqb (args .class) 0) _ (class .if1 .taken))) (known .1) (known .0) (word .new-word .ensures) in (
+    let m = inner-marks _ _ _ (args .news .now) (eqb-true _ 0 (and-left (eqb (args .class) 0) _ (class .if1 .taken))) (known .1) (known .0) (word .new-word .ensures) in (
       λ l.
           inner-made (args .samples .now) (args .n) (args .x) (args .y) (args .z) _ _ _ _ (cell .in-x) (cell .in-y) w m (args .work .now) l _
           (args .vertices .now) _ (args .counts .made) (args .counts .written) _ _ (inner .make-inner .ensures .0 l) (counts .0) (counts .1),
