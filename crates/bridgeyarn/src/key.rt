@@ -1,11 +1,12 @@
 // The calls about Morton keys. Level, parent, child, half-size and center refuse a bad key with
 // cause 9; the sum and the difference take any two words.
-use morton::Length;
 use morton::Number;
-use morton::Point;
+use morton_cells::Length;
+use morton_cells::Point;
 ghost use mathlib.Core.Path.{_≡_};
-ghost use Rattle.morton.specs.Answer.{levelOf, parentOf, childOf, halfSizeOf, centerOf, pointCause};
-ghost use Rattle.morton.specs.Interleaved.{sumOf, differenceOf};
+ghost use Rattle.morton.specs.Answer.{levelOf, parentOf, childOf};
+ghost use Rattle.morton_cells.specs.Cell.{halfSizeOf, centerOf, pointCause};
+ghost use Rattle.morton_sums.specs.Interleaved.{sumOf, differenceOf};
 ghost use Rattle.bridgeyarn.specs.Key.{keyAnswer, halfSizeAnswer, centerLeft};
 
 // A level or a key; 0 where refused.
@@ -60,7 +61,7 @@ pub extern "C" fn bridgeyarn_morton_child(key: u64, which: u32) -> KeyAnswer
 pub extern "C" fn bridgeyarn_morton_half_size(key: u64) -> HalfSizeAnswer
     ensures { λ r. ⌜ r ≡ halfSizeAnswer (halfSizeOf key) ⌝ }
 {
-    let length = morton::half_size(key);
+    let length = morton_cells::half_size(key);
     match length {
         Length::Is(value) => HalfSizeAnswer { cause: 0, value },
         Length::Refused => HalfSizeAnswer {
@@ -75,7 +76,7 @@ pub extern "C" fn bridgeyarn_morton_half_size(key: u64) -> HalfSizeAnswer
 pub extern "C" fn bridgeyarn_morton_center(key: u64, center: &mut [f32; 3]) -> u32
     ensures { λ r. ⌜ (r ≡ pointCause (centerOf key)) × (now (center .exit) ≡ centerLeft (centerOf key) (now (center .entry))) ⌝ }
 {
-    let point = morton::center(key);
+    let point = morton_cells::center(key);
     match point {
         Point::At(p) => {
             *center = [p.x, p.y, p.z];
@@ -90,7 +91,7 @@ pub extern "C" fn bridgeyarn_morton_center(key: u64, center: &mut [f32; 3]) -> u
 pub extern "C" fn bridgeyarn_morton_sum(a: u64, b: u64) -> u64
     ensures { λ r. ⌜ r ≡ sumOf a b ⌝ }
 {
-    morton::sum(a, b)
+    morton_sums::sum(a, b)
 }
 
 // The difference on each axis, modulo 2^22 for x and 2^21 for y and z.
@@ -98,5 +99,5 @@ pub extern "C" fn bridgeyarn_morton_sum(a: u64, b: u64) -> u64
 pub extern "C" fn bridgeyarn_morton_difference(a: u64, b: u64) -> u64
     ensures { λ r. ⌜ r ≡ differenceOf a b ⌝ }
 {
-    morton::difference(a, b)
+    morton_sums::difference(a, b)
 }

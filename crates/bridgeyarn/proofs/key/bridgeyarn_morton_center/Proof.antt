@@ -1,8 +1,8 @@
 -- `key::bridgeyarn_morton_center`: the cause and what is left in the lent place, for each case of the answer.
 use mathlib.Core.Path.{sym, ap, _∙_}
 use borrow.Author.Needs.{needs}
-use Rattle.morton.specs.declared.Point.{Point}
-use Rattle.morton.specs.Answer.{pointCause}
+use Rattle.morton_cells.specs.declared.Point.{Point}
+use Rattle.morton_cells.specs.Cell.{pointCause}
 use Rattle.bridgeyarn.specs.Key.{centerLeft}
 use Rattle.bridgeyarn.proofs.key.bridgeyarn_morton_center.Statement.{statement}
 use Rattle.bridgeyarn.proofs.key.bridgeyarn_morton_center.Tie as tie

@@ -1,11 +1,11 @@
 -- `difference`: each masked part is the difference on its axis, and the parts share no bit.
 use Prim.Native.Nat.{_+_, _-_, _%_, _^_}
 use borrow.Author.Needs.{needs}
-use Rattle.morton.specs.Interleaved.{X, Y, Z, width, onAxis}
-use Rattle.morton.proofs.Carry.{own}
-use Rattle.morton.proofs.Axis.{difference-on, joined}
-use Rattle.morton.proofs.difference.Statement.{statement}
-use Rattle.morton.proofs.difference.Tie as tie
+use Rattle.morton_sums.specs.Interleaved.{X, Y, Z, width, onAxis}
+use Rattle.morton_sums.proofs.Carry.{own}
+use Rattle.morton_sums.proofs.Axis.{difference-on, joined}
+use Rattle.morton_sums.proofs.difference.Statement.{statement}
+use Rattle.morton_sums.proofs.difference.Tie as tie
 
 wrapping-sub-u64-requires : tie.Need-wrapping-sub-u64-requires
 wrapping-sub-u64-requires c κs = search needs

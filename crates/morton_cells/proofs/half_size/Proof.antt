@@ -5,10 +5,10 @@ use Prim.Native.Nat.{ℕ, _≤_}
 use lib.Dec.{T}
 use borrow.Author.Needs.{needs}
 use borrow.Author.Tests.{not-true, not-false}
 use Rattle.morton.specs.Key.{good}
 use Rattle.morton.proofs.TopBit.{levelIn-le}
-use Rattle.morton.proofs.half_size.Statement.{statement}
-use Rattle.morton.proofs.half_size.Tie as tie
+use Rattle.morton_cells.proofs.half_size.Statement.{statement}
+use Rattle.morton_cells.proofs.half_size.Tie as tie
 
 is-good-requires : tie.Need-is-good-requires
 is-good-requires c κs = search needs

@@ -8,11 +8,11 @@ use lib.IntN.{pos}
 use lib.Pow.{pow-mono}
 use lib.Ieee.{Float, binary32, add, mul, ofBits, ofInt, inFloat}
 use borrow.Author.Needs.{needs}
-use Rattle.morton.specs.Interleaved.{thirds}
-use Rattle.morton.proofs.Thirds.{thirds-lt}
-use Rattle.morton.proofs.Exact.{center-exact}
-use Rattle.morton.proofs.center_on.Statement.{statement}
-use Rattle.morton.proofs.center_on.Tie as tie
+use Rattle.morton_sums.specs.Interleaved.{thirds}
+use Rattle.morton_cells.proofs.Thirds.{thirds-lt}
+use Rattle.morton_cells.proofs.Exact.{center-exact}
+use Rattle.morton_cells.proofs.center_on.Statement.{statement}
+use Rattle.morton_cells.proofs.center_on.Tie as tie
 
 half-size-at-requires : tie.Need-half-size-at-requires
 half-size-at-requires c κs = search needs

@@ -6,13 +6,13 @@ use native.Mathlib.Omega.{arith}
 use lib.Dec.{T}
 use borrow.Author.Needs.{needs}
 use borrow.Author.Tests.{not-true, not-false}
 use Rattle.morton.specs.Key.{good, levelIn}
-use Rattle.morton.specs.Interleaved.{X, Y, Z}
-use Rattle.morton.specs.Answer.{centerOn}
+use Rattle.morton_sums.specs.Interleaved.{X, Y, Z}
+use Rattle.morton_cells.specs.Cell.{centerOn}
 use Rattle.morton.proofs.TopBit.{levelIn-le}
-use Rattle.morton.proofs.Thirds.{center-on-axis}
-use Rattle.morton.proofs.center.Statement.{statement}
-use Rattle.morton.proofs.center.Tie as tie
+use Rattle.morton_cells.proofs.Thirds.{center-on-axis}
+use Rattle.morton_cells.proofs.center.Statement.{statement}
+use Rattle.morton_cells.proofs.center.Tie as tie
 
 is-good-requires : tie.Need-is-good-requires
 is-good-requires c κs = search needs

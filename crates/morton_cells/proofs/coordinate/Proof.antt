@@ -6,11 +6,11 @@ use native.Mathlib.Omega.{arith}
 use lib.Pow.{pow-pos}
 use lib.Bits.{bitAnd}
 use borrow.Author.Needs.{needs}
-use Rattle.morton.proofs.Digits.{power-shl}
-use Rattle.morton.proofs.Packing.{folded}
-use Rattle.morton.proofs.Thirds.{nines, folds}
-use Rattle.morton.proofs.coordinate.Statement.{statement}
-use Rattle.morton.proofs.coordinate.Tie as tie
+use Rattle.morton_sums.proofs.Digits.{power-shl}
+use Rattle.morton_cells.proofs.Packing.{folded}
+use Rattle.morton_cells.proofs.Thirds.{nines, folds}
+use Rattle.morton_cells.proofs.coordinate.Statement.{statement}
+use Rattle.morton_cells.proofs.coordinate.Tie as tie
 
 shl-length-mask : tie.Need-shl-length-mask
 shl-length-mask c = search needs

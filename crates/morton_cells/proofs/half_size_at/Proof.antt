@@ -8,10 +8,10 @@ use lib.IntN.{pos}
 use lib.Pow.{pow-mono}
 use lib.Ieee.{binary32, div, ofBits, ofInt, inFloat}
 use borrow.Author.Needs.{needs}
-use Rattle.morton.proofs.Digits.{power-shl}
-use Rattle.morton.proofs.Exact.{half-size-exact}
-use Rattle.morton.proofs.half_size_at.Statement.{statement}
-use Rattle.morton.proofs.half_size_at.Tie as tie
+use Rattle.morton_sums.proofs.Digits.{power-shl}
+use Rattle.morton_cells.proofs.Exact.{half-size-exact}
+use Rattle.morton_cells.proofs.half_size_at.Statement.{statement}
+use Rattle.morton_cells.proofs.half_size_at.Tie as tie
 
 shl-result : tie.Need-shl-result
 shl-result c = search needs

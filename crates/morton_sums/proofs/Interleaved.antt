@@ -6,8 +6,8 @@ use native.Mathlib.Nat.{mod-one, mod-mod, pow-suc, zero-lt-suc}
 use native.Mathlib.Omega.{arith}
 use lib.Arith.{mod-mul}
 use lib.Pow.{pow-pos}
-use Rattle.morton.specs.Interleaved.{thirds, spread, Axis, X, Y, Z, place, width, onAxis, interleave, sumOf, differenceOf}
-use Rattle.morton.proofs.Digits.{half, lowest, digit-lt}
+use Rattle.morton_sums.specs.Interleaved.{thirds, spread, Axis, X, Y, Z, place, width, onAxis, interleave, sumOf, differenceOf}
+use Rattle.morton_sums.proofs.Digits.{half, lowest, digit-lt}
 
 -- ---- n groups of three bits, and one more bit of x
 

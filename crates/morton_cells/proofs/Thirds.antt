@@ -7,11 +7,11 @@ use lib.Dec.{lit≤}
 use lib.Arith.{digits-div, digits-mod, mod-mul}
 use lib.Pow.{pow-pos, mod-mod-pow}
 use lib.Bits.{bitAnd, and-mask}
 use Rattle.morton.specs.Key.{levelIn}
-use Rattle.morton.specs.Interleaved.{thirds, Axis, X, Y, Z, place, width}
-use Rattle.morton.specs.Answer.{centerAt, centerOn}
+use Rattle.morton_sums.specs.Interleaved.{thirds, Axis, X, Y, Z, place, width}
+use Rattle.morton_cells.specs.Cell.{centerAt, centerOn}
 use Rattle.morton.proofs.TopBit.{levelIn-le}
-use Rattle.morton.proofs.Packing.{pack, sparse, folded, thrice, pack-masked, sparse-masked, pack-folded}
+use Rattle.morton_cells.proofs.Packing.{pack, sparse, folded, thrice, pack-masked, sparse-masked, pack-folded}
 
 mod-below : (n m l : ℕ) → l ≤ m → n % 2 ^ m % 2 ^ l ≡ n % 2 ^ l
 mod-below n m l h =

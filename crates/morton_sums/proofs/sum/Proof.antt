@@ -3,11 +3,11 @@ use mathlib.Core.Path.{ap, _∙_}
 use Prim.Native.Nat.{ℕ, _+_, _%_, _^_}
 use lib.Bits.{bitAnd}
 use borrow.Author.Needs.{needs}
-use Rattle.morton.specs.Interleaved.{X, Y, Z, width, onAxis}
-use Rattle.morton.proofs.Carry.{own, others}
-use Rattle.morton.proofs.Axis.{sum-on, joined}
-use Rattle.morton.proofs.sum.Statement.{statement}
-use Rattle.morton.proofs.sum.Tie as tie
+use Rattle.morton_sums.specs.Interleaved.{X, Y, Z, width, onAxis}
+use Rattle.morton_sums.proofs.Carry.{own, others}
+use Rattle.morton_sums.proofs.Axis.{sum-on, joined}
+use Rattle.morton_sums.proofs.sum.Statement.{statement}
+use Rattle.morton_sums.proofs.sum.Tie as tie
 
 wrapping-add-u64-requires : tie.Need-wrapping-add-u64-requires
 wrapping-add-u64-requires c κs = search needs

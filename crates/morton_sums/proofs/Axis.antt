@@ -7,9 +7,9 @@ use native.Mathlib.Omega.{arith}
 use lib.Dec.{lit<}
 use lib.Pow.{field, mod-mod-pow}
 use lib.Bits.{bitAnd, bitOr, and-mod, and-le-r, or-disjoint}
-use Rattle.morton.specs.Interleaved.{thirds, spread, Axis, X, Y, Z, place, width, onAxis, along, interleave}
-use Rattle.morton.proofs.Digits.{apart-masked, apart-joined}
-use Rattle.morton.proofs.Carry.{own, others, gather, scatter, range, sum-in, complement-word, complement-number}
+use Rattle.morton_sums.specs.Interleaved.{thirds, spread, Axis, X, Y, Z, place, width, onAxis, along, interleave}
+use Rattle.morton_sums.proofs.Digits.{apart-masked, apart-joined}
+use Rattle.morton_sums.proofs.Carry.{own, others, gather, scatter, range, sum-in, complement-word, complement-number}
 
 -- ---- groups of three bits
 

@@ -12,7 +12,7 @@ use lib.Ieee.Fits.{and-l, down-pos, add-fits, div-fits, ofInt-fits}
 use lib.Ieee.Exact.{HasValue, round-exact}
 use lib.Ieee.Scale.{round-same}
 use lib.Ieee.Back.{round-whole, whole-unique}
-use Rattle.morton.specs.Answer.{halfSizeAt, centerAt}
+use Rattle.morton_cells.specs.Cell.{halfSizeAt, centerAt}
 
 -- ---- an odd number over a power of two is written in one way
 

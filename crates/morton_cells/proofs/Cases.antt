@@ -6,15 +6,16 @@ use Prim.Native.Nat.{ℕ}
 use lib.Count.{leadingZeros}
 use lib.IntN.{negsuc}
 use lib.Ieee.{Float, fin}
 use Rattle.morton.specs.declared.Number.{Number}
 use Rattle.morton.specs.declared.Number.the-variants as number
-use Rattle.morton.specs.declared.Length.{Length}
-use Rattle.morton.specs.declared.Length.the-variants as length
-use Rattle.morton.specs.declared.Point.{Point}
-use Rattle.morton.specs.declared.Point.the-variants as point
+use Rattle.morton_cells.specs.declared.Length.{Length}
+use Rattle.morton_cells.specs.declared.Length.the-variants as length
+use Rattle.morton_cells.specs.declared.Point.{Point}
+use Rattle.morton_cells.specs.declared.Point.the-variants as point
 use Rattle.morton.specs.Key.{topBit, good, levelIn}
-use Rattle.morton.specs.Interleaved.{thirds, spread, sumOf, differenceOf}
-use Rattle.morton.specs.Answer.{levelOf, parentOf, childOf, halfSizeOf, centerOf}
+use Rattle.morton_sums.specs.Interleaved.{thirds, spread, sumOf, differenceOf}
+use Rattle.morton.specs.Answer.{levelOf, parentOf, childOf}
+use Rattle.morton_cells.specs.Cell.{halfSizeOf, centerOf}
 
 -- what is asked
 data Case : Type 0 where

@@ -5,7 +5,7 @@ use Prim.Native.Nat.{ℕ, zero, suc, _+_, _-_, _*_, _/_, _%_, _^_, _≤_, _<_}
 use native.Mathlib.Nat.{pow-suc}
 use native.Mathlib.Omega.{arith}
 use lib.Bits.{bitAnd, bitOr, and-zero-r}
-use Rattle.morton.proofs.Digits.{half, lowest, digit-lt, and-set, and-clear, or-set, or-clear}
+use Rattle.morton_sums.proofs.Digits.{half, lowest, digit-lt, and-set, and-clear, or-set, or-clear}
 
 -- ---- k bits of a word, of which the axis has one after s others, and then one after every two
 
