@@ -1,9 +1,9 @@
 // The reader of mesh records, document 02, CR 1: the refusals, then the room, then the copy. What is
 // lent is written only after every check has passed.
-use little_endian::runs::copy_floats;
-use little_endian::runs::copy_words;
 use little_endian::word_at;
 use mesh_record::reader::refusal_in;
+use word_runs::copy_floats;
+use word_runs::copy_words;
 ghost use mathlib.Core.Path.{_≡_};
 ghost use Prim.Native.Nat.{_+_, _*_};
 ghost use lib.ListN.{length};

@@ -6,7 +6,7 @@ use native.Mathlib.Omega.{arith}
 use lib.ListN.{length}
 use borrow.Author.Tests.{lt-ltb, le-ltb}
 use Rattle.little_endian.specs.Words.{wordAt, wordsFrom}
-use Rattle.little_endian.proofs.Turns.{wordsFrom-length}
+use Rattle.little_endian.proofs.Runs.{wordsFrom-length}
 use Rattle.mesh_record.specs.Mesh.{Mesh, vertexCount, finite, below}
 use Rattle.mesh_record.specs.Refusals.{none, malformed, lowestBad, contents}
 use Rattle.mesh_record.specs.Reading.{meshIn}

@@ -5,7 +5,7 @@ use native.Mathlib.Omega.{arith}
 use lib.ListN.{length, getD, drop}
 use borrow.Author.Tests.{not-true, not-false}
 use Rattle.little_endian.specs.Words.{wordsFrom}
-use Rattle.little_endian.proofs.Turns.{wordsFrom-length, wordsFrom-at}
+use Rattle.little_endian.proofs.Runs.{wordsFrom-length, wordsFrom-at}
 use Rattle.mesh_record.specs.Mesh.{finite}
 use Rattle.mesh_record.specs.Refusals.{lowestBad}
 use Rattle.mesh_record.proofs.LowestBad.{lowestBad-good, lowestBad-bad, lowestBad-end}

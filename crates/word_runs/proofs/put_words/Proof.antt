@@ -1,11 +1,11 @@
--- `runs::put_words`: after i turns the bytes of the first i words are put.
+-- `put_words`: after i turns the bytes of the first i words are put.
 use mathlib.Core.Path.{_≡_, refl, _∙_}
 use Prim.Native.Nat.{_-_, _≤_}
 use lib.ListN.{length}
-use Rattle.little_endian.proofs.Turns.{putTo, putTo-end, put-next}
+use Rattle.word_runs.proofs.Turns.{putTo, putTo-end, put-next}
 use borrow.Author.Needs.{needs}
-use Rattle.little_endian.proofs.runs.put_words.Statement.{statement}
-use Rattle.little_endian.proofs.runs.put_words.Tie as tie
+use Rattle.word_runs.proofs.put_words.Statement.{statement}
+use Rattle.word_runs.proofs.put_words.Tie as tie
 
 abbrev Inv-loop : tie.InvT-loop
 Inv-loop bytes₀ at list i₀ bytes i = (i ≤ length list) × (length bytes ≡ length bytes₀) × (bytes ≡ putTo bytes₀ at list i)

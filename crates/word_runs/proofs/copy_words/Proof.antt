@@ -1,13 +1,14 @@
--- `runs::copy_words`: after i turns the front of the buffer has the first i words, and the rest is as it was.
+-- `copy_words`: after i turns the front of the buffer has the first i words, and the rest is as it was.
 use mathlib.Core.Path.{_≡_, refl, sym, _∙_}
 use Prim.Native.Nat.{_-_, _≤_, _<_}
 use native.Mathlib.Omega.{arith}
 use lib.ListN.{length}
 use Rattle.little_endian.specs.Words.{wordsFrom}
-use Rattle.little_endian.proofs.Turns.{wordsFrom-length, wordsFrom-at, copiedTo, copiedTo-end, copied-next}
+use Rattle.little_endian.proofs.Runs.{wordsFrom-length, wordsFrom-at}
+use Rattle.word_runs.proofs.Turns.{copiedTo, copiedTo-end, copied-next}
 use borrow.Author.Needs.{needs}
-use Rattle.little_endian.proofs.runs.copy_words.Statement.{statement}
-use Rattle.little_endian.proofs.runs.copy_words.Tie as tie
+use Rattle.word_runs.proofs.copy_words.Statement.{statement}
+use Rattle.word_runs.proofs.copy_words.Tie as tie
 
 abbrev Inv-loop : tie.InvT-loop
 Inv-loop bytes at count buffer₀ i₀ buffer i = (i ≤ count) × (buffer ≡ copiedTo (wordsFrom bytes at count) buffer₀ i) × (length buffer ≡ length buffer₀)

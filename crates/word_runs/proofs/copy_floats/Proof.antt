@@ -1,15 +1,16 @@
--- `runs::copy_floats`: as `copy_words`, with the float of each word.
+-- `copy_floats`: as `copy_words`, with the float of each word.
 use mathlib.Core.Path.{_≡_, refl, sym, ap, _∙_}
 use mathlib.Core.List.{map}
 use Prim.Native.Nat.{_-_, _≤_, _<_}
 use native.Mathlib.Omega.{arith}
 use lib.ListN.{length, length-map}
 use lib.Ieee.{nan, binary32, ofBits}
 use Rattle.little_endian.specs.Words.{wordsFrom}
-use Rattle.little_endian.proofs.Turns.{wordsFrom-length, wordsFrom-at, getD-map-at, copiedTo, copiedTo-end, copied-next}
+use Rattle.little_endian.proofs.Runs.{wordsFrom-length, wordsFrom-at, getD-map-at}
+use Rattle.word_runs.proofs.Turns.{copiedTo, copiedTo-end, copied-next}
 use borrow.Author.Needs.{needs}
-use Rattle.little_endian.proofs.runs.copy_floats.Statement.{statement}
-use Rattle.little_endian.proofs.runs.copy_floats.Tie as tie
+use Rattle.word_runs.proofs.copy_floats.Statement.{statement}
+use Rattle.word_runs.proofs.copy_floats.Tie as tie
 
 abbrev Inv-loop : tie.InvT-loop
 Inv-loop bytes at count buffer₀ i₀ buffer i =

@@ -1,32 +1,16 @@
--- Runs of words: how many there are, what each is, and what one turn of a copy does.
-use mathlib.Core.Path.{_≡_, refl, sym, ap, _∙_}
-use mathlib.Core.List.{List, [], _∷_, _++_, map, append-nil}
-use Prim.Native.Nat.{ℕ, zero, suc, _+_, _-_, _*_, _≤_, _<_, min}
+-- What one turn of a copy does, out of bytes and into them, and what is there after the last.
+use mathlib.Core.Path.{_≡_, sym, ap, _∙_}
+use mathlib.Core.List.{List, [], _∷_, _++_, append-nil}
+use Prim.Native.Nat.{ℕ, _+_, _*_, _≤_, _<_, min}
 use native.Mathlib.Nat.{zero-add}
 use native.Mathlib.Numerals.{add-one}
 use native.Mathlib.Omega.{arith}
-use lib.ListN.{length, getD, take, drop, set, length-take, length-drop}
-use lib.Seq.{sets, paste-suc, take-suc, take-length, getD-take}
-use Rattle.little_endian.specs.Words.{wordAt, words, wordsFrom, wordBytes, bytesOf, over}
-use Rattle.little_endian.proofs.Words.{words-length, words-from}
+use lib.ListN.{length, getD, take, drop, set, length-take}
+use lib.Seq.{sets, paste-suc, take-suc, take-length}
+use Rattle.little_endian.specs.Words.{wordBytes, bytesOf, over}
 use Rattle.little_endian.proofs.Bytes.{bytesOf-length, bytesOf-append, sets-append}
 
 -- ---- out of bytes
-
-module _ (bytes : List ℕ) (at count : ℕ) (within : at + 4 * count ≤ length bytes) where
-  words-enough : count ≤ length (words (drop at bytes))
-  words-enough = omega (arith, words-length (drop at bytes), length-drop at bytes)
-
-  pub wordsFrom-length : length (wordsFrom bytes at count) ≡ count
-  wordsFrom-length = let h = words-enough in omega (arith, length-take count (words (drop at bytes)))
-
-  pub wordsFrom-at : (i : ℕ) → i < count → getD (wordsFrom bytes at count) i 0 ≡ wordAt bytes (at + 4 * i)
-  wordsFrom-at i h = let all = words-enough in getD-take count (words (drop at bytes)) i 0 h ∙ words-from bytes at i (omega arith)
-
-pub getD-map-at : {A B : Type 0} (f : A → B) (l : List A) (i : ℕ) (d : A) (e : B) → i < length l → getD (map f l) i e ≡ f (getD l i d)
-getD-map-at f [] i d e h = absurd (omega arith)
-getD-map-at f (x ∷ l) zero d e h = refl
-getD-map-at f (x ∷ l) (suc i) d e h = getD-map-at f l i d e (omega arith)
 
 -- the buffer after i turns
 abbrev pub copiedTo : {A : Type 0} → List A → List A → ℕ → List A

@@ -1,15 +1,16 @@
-// Runs of words: out of lent bytes into words or floats, and back.
-use crate::bits_of;
-use crate::float_of;
-use crate::put_word;
-use crate::word_at;
+// Runs of little-endian words: out of lent bytes into words or floats, and back. Callers have tested
+// that the bytes are there.
+use little_endian::bits_of;
+use little_endian::float_of;
+use little_endian::put_word;
+use little_endian::word_at;
 ghost use mathlib.Core.Path.{_≡_};
 ghost use mathlib.Core.List.{map};
 ghost use Prim.Native.Nat.{_+_, _*_, _≤_};
 ghost use lib.ListN.{length};
 ghost use lib.Seq.{sets};
 ghost use lib.Ieee.{binary32, ofBits, toBits};
 ghost use Rattle.little_endian.specs.Words.{wordsFrom, bytesOf, over};
 
 // The words from a byte place on, into the front of a buffer.
 pub fn copy_words(bytes: &[u8], at: usize, count: usize, buffer: &mut [u32])

@@ -1,14 +1,15 @@
--- `runs::put_floats`: as `put_words`, with the bits of each float.
+-- `put_floats`: as `put_words`, with the bits of each float.
 use mathlib.Core.Path.{_≡_, refl, sym, _∙_}
 use mathlib.Core.List.{map}
 use Prim.Native.Nat.{_-_, _≤_, _<_}
 use native.Mathlib.Omega.{arith}
 use lib.ListN.{length, length-map}
 use lib.Ieee.{binary32, toBits}
-use Rattle.little_endian.proofs.Turns.{getD-map-at, putTo, putTo-end, put-next}
+use Rattle.little_endian.proofs.Runs.{getD-map-at}
+use Rattle.word_runs.proofs.Turns.{putTo, putTo-end, put-next}
 use borrow.Author.Needs.{needs}
-use Rattle.little_endian.proofs.runs.put_floats.Statement.{statement}
-use Rattle.little_endian.proofs.runs.put_floats.Tie as tie
+use Rattle.word_runs.proofs.put_floats.Statement.{statement}
+use Rattle.word_runs.proofs.put_floats.Tie as tie
 
 abbrev Inv-loop : tie.InvT-loop
 Inv-loop bytes₀ at list i₀ bytes i = (i ≤ length list) × (length bytes ≡ length bytes₀) × (bytes ≡ putTo bytes₀ at (map (toBits binary32) list) i)
