@@ -1,10 +1,10 @@
--- `reader::contents_in`: the vertices are searched before the indices, which lie after them.
+-- `contents_in`: the vertices are searched before the indices, which lie after them.
 use mathlib.Core.Path.{_∙_}
 use native.Mathlib.Omega.{arith}
-use Rattle.mesh_record.proofs.Contents.{contentsIn-coordinate, contentsIn-index, contentsIn-passed}
+use Rattle.mesh_checks.proofs.Contents.{contentsIn-coordinate, contentsIn-index, contentsIn-passed}
 use borrow.Author.Needs.{needs}
-use Rattle.mesh_record.proofs.reader.contents_in.Statement.{statement}
-use Rattle.mesh_record.proofs.reader.contents_in.Tie as tie
+use Rattle.mesh_checks.proofs.contents_in.Statement.{statement}
+use Rattle.mesh_checks.proofs.contents_in.Tie as tie
 
 word-at-requires : tie.Need-word-at-requires
 word-at-requires c κs = search needs

@@ -1,13 +1,13 @@
--- `reader::refusal_in`: the parts in the order of the definition; what the fields showed lets the contents be read.
+-- `refusal_in`: the parts in the order of the definition; what the fields showed lets the contents be read.
 use mathlib.Core.Path.{sym, ap, _∙_}
 use Prim.Native.Nat.{_≤_}
 use native.Mathlib.Omega.{arith}
 use lib.ListN.{length}
 use Rattle.mesh_record.specs.declared.Refusal.{Refusal}
-use Rattle.mesh_record.proofs.Passed.{refusalIn-short, refusalIn-opening, refusalIn-fields, refusalIn-contents, fieldsIn-known}
+use Rattle.mesh_checks.proofs.Passed.{refusalIn-short, refusalIn-opening, refusalIn-fields, refusalIn-contents, fieldsIn-known}
 use borrow.Author.Needs.{needs}
-use Rattle.mesh_record.proofs.reader.refusal_in.Statement.{statement}
-use Rattle.mesh_record.proofs.reader.refusal_in.Tie as tie
+use Rattle.mesh_checks.proofs.refusal_in.Statement.{statement}
+use Rattle.mesh_checks.proofs.refusal_in.Tie as tie
 
 long : (c : tie.Else1) → let start = c .before .before in 28 ≤ length (start .args .bytes .now)
 long c = omega arith

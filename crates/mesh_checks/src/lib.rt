@@ -1,16 +1,16 @@
-// The refusals of a record, in document 02's order.
-use crate::Refusal;
-use crate::is_finite;
-use crate::opening;
-use crate::refused;
+// The refusals of a mesh record, in document 02's order (CR 1). The bytes are only read.
 use little_endian::word_at;
+use mesh_record::Refusal;
+use mesh_record::is_finite;
+use mesh_record::opening;
+use mesh_record::refused;
 ghost use mathlib.Core.Path.{_≡_};
 ghost use Prim.Native.Nat.{_+_, _*_, _≤_};
 ghost use lib.ListN.{length};
 ghost use Rattle.little_endian.specs.Words.{wordAt, wordsFrom};
 ghost use Rattle.mesh_record.specs.Mesh.{finite, below};
 ghost use Rattle.mesh_record.specs.Refusals.{lowestBad, contents};
-ghost use Rattle.mesh_record.specs.Reading.{meshIn, fieldsIn, refusalIn};
+ghost use Rattle.mesh_checks.specs.Reading.{meshIn, fieldsIn, refusalIn};
 
 // The fields after the numbering, and the length. No product passes 2^36.
 fn fields_in(bytes: &[u8]) -> Refusal

@@ -1,4 +1,4 @@
--- `reader::lowest_beyond`: the indices before i are below the limit, so the answer is i more than that of the rest.
+-- `lowest_beyond`: the indices before i are below the limit, so the answer is i more than that of the rest.
 use mathlib.Core.Path.{_≡_, sym, ap, _∙_}
 use Prim.Native.Nat.{_+_, _-_, _≤_, _<_}
 use native.Mathlib.Omega.{arith}
@@ -6,12 +6,12 @@ use lib.ListN.{length, getD, drop}
 use borrow.Author.Tests.{lt-ltb, le-ltb}
 use Rattle.little_endian.specs.Words.{wordsFrom}
 use Rattle.little_endian.proofs.Runs.{wordsFrom-length, wordsFrom-at}
 use Rattle.mesh_record.specs.Mesh.{below}
 use Rattle.mesh_record.specs.Refusals.{lowestBad}
 use Rattle.mesh_record.proofs.LowestBad.{lowestBad-good, lowestBad-bad, lowestBad-end}
 use borrow.Author.Needs.{needs}
-use Rattle.mesh_record.proofs.reader.lowest_beyond.Statement.{statement}
-use Rattle.mesh_record.proofs.reader.lowest_beyond.Tie as tie
+use Rattle.mesh_checks.proofs.lowest_beyond.Statement.{statement}
+use Rattle.mesh_checks.proofs.lowest_beyond.Tie as tie
 
 abbrev Inv-loop : tie.InvT-loop
 Inv-loop bytes at count limit i₀ i = (i ≤ count) × (i + lowestBad (below limit) (drop i (wordsFrom bytes at count)) ≡ lowestBad (below limit) (wordsFrom bytes at count))

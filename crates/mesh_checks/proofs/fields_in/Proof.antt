@@ -1,10 +1,10 @@
--- `reader::fields_in`: the checks in the order of the definition.
+-- `fields_in`: the checks in the order of the definition.
 use mathlib.Core.Path.{_∙_}
 use native.Mathlib.Omega.{arith}
-use Rattle.mesh_record.proofs.Checks.{fieldsIn-vertices, fieldsIn-count, fieldsIn-indices, fieldsIn-length, fieldsIn-passed}
+use Rattle.mesh_checks.proofs.Checks.{fieldsIn-vertices, fieldsIn-count, fieldsIn-indices, fieldsIn-length, fieldsIn-passed}
 use borrow.Author.Needs.{needs}
-use Rattle.mesh_record.proofs.reader.fields_in.Statement.{statement}
-use Rattle.mesh_record.proofs.reader.fields_in.Tie as tie
+use Rattle.mesh_checks.proofs.fields_in.Statement.{statement}
+use Rattle.mesh_checks.proofs.fields_in.Tie as tie
 
 word-at-requires : tie.Need-word-at-requires
 word-at-requires c κs = search needs

@@ -1,4 +1,4 @@
--- `reader::lowest_infinite`: the coordinates before i are finite, so the answer is i more than that of the rest.
+-- `lowest_infinite`: the coordinates before i are finite, so the answer is i more than that of the rest.
 use mathlib.Core.Path.{_≡_, sym, ap, _∙_}
 use Prim.Native.Nat.{_+_, _-_, _≤_, _<_}
 use native.Mathlib.Omega.{arith}
@@ -6,12 +6,12 @@ use lib.ListN.{length, getD, drop}
 use borrow.Author.Tests.{not-true, not-false}
 use Rattle.little_endian.specs.Words.{wordsFrom}
 use Rattle.little_endian.proofs.Runs.{wordsFrom-length, wordsFrom-at}
 use Rattle.mesh_record.specs.Mesh.{finite}
 use Rattle.mesh_record.specs.Refusals.{lowestBad}
 use Rattle.mesh_record.proofs.LowestBad.{lowestBad-good, lowestBad-bad, lowestBad-end}
 use borrow.Author.Needs.{needs}
-use Rattle.mesh_record.proofs.reader.lowest_infinite.Statement.{statement}
-use Rattle.mesh_record.proofs.reader.lowest_infinite.Tie as tie
+use Rattle.mesh_checks.proofs.lowest_infinite.Statement.{statement}
+use Rattle.mesh_checks.proofs.lowest_infinite.Tie as tie
 
 abbrev Inv-loop : tie.InvT-loop
 Inv-loop bytes at count i₀ i = (i ≤ count) × (i + lowestBad finite (drop i (wordsFrom bytes at count)) ≡ lowestBad finite (wordsFrom bytes at count))
