@@ -2,8 +2,8 @@
 // lent is written only after every check has passed.
 use little_endian::word_at;
 use mesh_checks::refusal_in;
-use word_runs::copy_floats;
-use word_runs::copy_words;
+use words_read::copy_floats;
+use words_read::copy_words;
 ghost use mathlib.Core.Path.{_≡_};
 ghost use Prim.Native.Nat.{_+_, _*_};
 ghost use lib.ListN.{length};

@@ -1,35 +1,13 @@
--- What one turn of a copy does, out of bytes and into them, and what is there after the last.
+-- What one turn of a copy into bytes does, and what is there after the last.
 use mathlib.Core.Path.{_≡_, sym, ap, _∙_}
 use mathlib.Core.List.{List, [], _∷_, _++_, append-nil}
-use Prim.Native.Nat.{ℕ, _+_, _*_, _≤_, _<_, min}
-use native.Mathlib.Nat.{zero-add}
+use Prim.Native.Nat.{ℕ, _+_, _*_, _<_, min}
 use native.Mathlib.Numerals.{add-one}
 use native.Mathlib.Omega.{arith}
-use lib.ListN.{length, getD, take, drop, set, length-take}
-use lib.Seq.{sets, paste-suc, take-suc, take-length}
-use Rattle.little_endian.specs.Words.{wordBytes, bytesOf, over}
+use lib.ListN.{length, getD, take, length-take}
+use lib.Seq.{sets, take-suc, take-length}
+use Rattle.little_endian.specs.Words.{wordBytes, bytesOf}
 use Rattle.little_endian.proofs.Bytes.{bytesOf-length, bytesOf-append, sets-append}
-
--- ---- out of bytes
-
--- the buffer after i turns
-abbrev pub copiedTo : {A : Type 0} → List A → List A → ℕ → List A
-copiedTo l buffer i = take i l ++ drop i buffer
-
-module _ {A : Type 0} (l buffer : List A) where
-  pub copiedTo-suc : (i : ℕ) (d : A) → i < length l → i < length buffer → set (copiedTo l buffer i) i (getD l i d) ≡ copiedTo l buffer (i + 1)
-  copiedTo-suc i d within room =
-      let turn = paste-suc buffer 0 l i d (omega arith) within in
-      simp (zero-add, ← add-one) at turn
-
-  pub copiedTo-end : (i : ℕ) → i ≡ length l → copiedTo l buffer i ≡ over l buffer
-  copiedTo-end i e = rw (e, take-length l)
-
-  pub copied-next : (current : List A) (i : ℕ) (d value : A) → i < length l → i < length buffer → current ≡ copiedTo l buffer i → value ≡ getD l i d
-      → set current i value ≡ copiedTo l buffer (i + 1)
-  copied-next current i d value within room is found = rw (is, found) (copiedTo-suc i d within room)
-
--- ---- into bytes
 
 -- the bytes after i turns
 abbrev pub putTo : List ℕ → ℕ → List ℕ → ℕ → List ℕ

@@ -5,10 +5,10 @@ use native.Mathlib.Omega.{arith}
 use lib.ListN.{length}
 use Rattle.little_endian.specs.Words.{wordsFrom}
 use Rattle.little_endian.proofs.Runs.{wordsFrom-length, wordsFrom-at}
-use Rattle.word_runs.proofs.Turns.{copiedTo, copiedTo-end, copied-next}
+use Rattle.words_read.proofs.Turns.{copiedTo, copiedTo-end, copied-next}
 use borrow.Author.Needs.{needs}
-use Rattle.word_runs.proofs.copy_words.Statement.{statement}
-use Rattle.word_runs.proofs.copy_words.Tie as tie
+use Rattle.words_read.proofs.copy_words.Statement.{statement}
+use Rattle.words_read.proofs.copy_words.Tie as tie
 
 abbrev Inv-loop : tie.InvT-loop
 Inv-loop bytes at count buffer₀ i₀ buffer i = (i ≤ count) × (buffer ≡ copiedTo (wordsFrom bytes at count) buffer₀ i) × (length buffer ≡ length buffer₀)

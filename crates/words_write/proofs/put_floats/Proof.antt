@@ -6,10 +6,10 @@ use native.Mathlib.Omega.{arith}
 use lib.ListN.{length, length-map}
 use lib.Ieee.{binary32, toBits}
 use Rattle.little_endian.proofs.Runs.{getD-map-at}
-use Rattle.word_runs.proofs.Turns.{putTo, putTo-end, put-next}
+use Rattle.words_write.proofs.Turns.{putTo, putTo-end, put-next}
 use borrow.Author.Needs.{needs}
-use Rattle.word_runs.proofs.put_floats.Statement.{statement}
-use Rattle.word_runs.proofs.put_floats.Tie as tie
+use Rattle.words_write.proofs.put_floats.Statement.{statement}
+use Rattle.words_write.proofs.put_floats.Tie as tie
 
 abbrev Inv-loop : tie.InvT-loop
 Inv-loop bytes₀ at list i₀ bytes i = (i ≤ length list) × (length bytes ≡ length bytes₀) × (bytes ≡ putTo bytes₀ at (map (toBits binary32) list) i)

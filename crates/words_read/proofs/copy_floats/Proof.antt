@@ -7,10 +7,10 @@ use lib.ListN.{length, length-map}
 use lib.Ieee.{nan, binary32, ofBits}
 use Rattle.little_endian.specs.Words.{wordsFrom}
 use Rattle.little_endian.proofs.Runs.{wordsFrom-length, wordsFrom-at, getD-map-at}
-use Rattle.word_runs.proofs.Turns.{copiedTo, copiedTo-end, copied-next}
+use Rattle.words_read.proofs.Turns.{copiedTo, copiedTo-end, copied-next}
 use borrow.Author.Needs.{needs}
-use Rattle.word_runs.proofs.copy_floats.Statement.{statement}
-use Rattle.word_runs.proofs.copy_floats.Tie as tie
+use Rattle.words_read.proofs.copy_floats.Statement.{statement}
+use Rattle.words_read.proofs.copy_floats.Tie as tie
 
 abbrev Inv-loop : tie.InvT-loop
 Inv-loop bytes at count buffer₀ i₀ buffer i =
