@@ -175,7 +175,7 @@ typedef struct {
     float value;
 } bridgeyarn_half_size_answer;
 
-/* 1 / 2^(level + 1), exactly. Definition: halfSizeOf. */
+/* 1 / 2^(level + 1), exactly. Definition: halfSizeOf, crates/morton_cells/specs/Cell.antt. */
 bridgeyarn_half_size_answer bridgeyarn_morton_half_size(uint64_t key);
 
 /* Returns the cause. After 0, center holds x, y and z: (2b + 1) / 2^(level + 1) exactly, b being the number on the axis without the key's
@@ -183,7 +183,7 @@ bridgeyarn_half_size_answer bridgeyarn_morton_half_size(uint64_t key);
 uint32_t bridgeyarn_morton_center(uint64_t key, float center[3]);
 
 /* The word whose number on each axis is the sum, or the difference, of those of a and b, modulo 2^22 for x and 2^21 for y and z. Any two
- * words are taken and neither call refuses. Definitions: sumOf and differenceOf, crates/morton/specs/Interleaved.antt. */
+ * words are taken and neither call refuses. Definitions: sumOf and differenceOf, crates/morton_sums/specs/Interleaved.antt. */
 uint64_t bridgeyarn_morton_sum(uint64_t a, uint64_t b);
 uint64_t bridgeyarn_morton_difference(uint64_t a, uint64_t b);
 

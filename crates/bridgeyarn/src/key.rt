@@ -3,8 +3,9 @@
 use key_answer::HalfSizeAnswer;
 use key_answer::KeyAnswer;
 ghost use mathlib.Core.Path.{_≡_};
-ghost use Rattle.morton.specs.Answer.{levelOf, parentOf, childOf, halfSizeOf, centerOf, pointCause};
-ghost use Rattle.morton.specs.Interleaved.{sumOf, differenceOf};
+ghost use Rattle.morton.specs.Answer.{levelOf, parentOf, childOf};
+ghost use Rattle.morton_cells.specs.Cell.{halfSizeOf, centerOf, pointCause};
+ghost use Rattle.morton_sums.specs.Interleaved.{sumOf, differenceOf};
 ghost use Rattle.key_answer.specs.Key.{keyAnswer, halfSizeAnswer, centerLeft};
 
 // The level of a key.
@@ -52,7 +53,7 @@ pub extern "C" fn bridgeyarn_morton_center(key: u64, center: &mut [f32; 3]) -> u
 pub extern "C" fn bridgeyarn_morton_sum(a: u64, b: u64) -> u64
     ensures { λ r. ⌜ r ≡ sumOf a b ⌝ }
 {
-    morton::sum(a, b)
+    morton_sums::sum(a, b)
 }
 
 // The difference on each axis, modulo 2^22 for x and 2^21 for y and z.
@@ -60,5 +61,5 @@ pub extern "C" fn bridgeyarn_morton_sum(a: u64, b: u64) -> u64
 pub extern "C" fn bridgeyarn_morton_difference(a: u64, b: u64) -> u64
     ensures { λ r. ⌜ r ≡ differenceOf a b ⌝ }
 {
-    morton::difference(a, b)
+    morton_sums::difference(a, b)
 }

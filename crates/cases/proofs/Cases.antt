@@ -19,11 +19,12 @@ use Rattle.marching_cubes_impl.specs.Edge.{offsetOf, crosses, crossingOf}
 use Rattle.marching_cubes_impl.specs.Vertex.{between}
 use Rattle.morton.specs.declared.Number.{Number}
 use Rattle.morton.specs.declared.Number.the-variants as number
-use Rattle.morton.specs.declared.Point.{Point}
-use Rattle.morton.specs.declared.Point.the-variants as point
+use Rattle.morton_cells.specs.declared.Point.{Point}
+use Rattle.morton_cells.specs.declared.Point.the-variants as point
 use Rattle.morton.specs.Key.{topBit, good as goodKey, levelIn}
-use Rattle.morton.specs.Interleaved.{thirds, spread}
-use Rattle.morton.specs.Answer.{levelOf, parentOf, centerOf}
+use Rattle.morton_sums.specs.Interleaved.{thirds, spread}
+use Rattle.morton.specs.Answer.{levelOf, parentOf}
+use Rattle.morton_cells.specs.Cell.{centerOf}
 use Rattle.positions.specs.Position.{stepOf, cornerOf, positionOf}
 use Rattle.walk.specs.Walk.{signs, cellEdges, times, cell, cells, rows, walk}
 use Rattle.walk.specs.Edges.{axisOf, lowOffset, edgeOf, same}

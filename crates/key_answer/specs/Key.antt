@@ -2,10 +2,11 @@
 use mathlib.Core.List.{List, [], _∷_}
 use lib.Ieee.{Float}
 use Rattle.morton.specs.declared.Number.{Number}
-use Rattle.morton.specs.declared.Length.{Length}
-use Rattle.morton.specs.declared.Point.{Point}
-use Rattle.morton.specs.declared.Point.the-variants.{At, Refused}
-use Rattle.morton.specs.Answer.{numberCause, numberIn, lengthCause, lengthIn}
+use Rattle.morton_cells.specs.declared.Length.{Length}
+use Rattle.morton_cells.specs.declared.Point.{Point}
+use Rattle.morton_cells.specs.declared.Point.the-variants.{At, Refused}
+use Rattle.morton.specs.Answer.{numberCause, numberIn}
+use Rattle.morton_cells.specs.Cell.{lengthCause, lengthIn}
 use Rattle.key_answer.specs.declared.KeyAnswer.{KeyAnswer}
 use Rattle.key_answer.specs.declared.HalfSizeAnswer.{HalfSizeAnswer}
 

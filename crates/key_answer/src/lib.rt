@@ -1,10 +1,11 @@
 // The answers about Morton keys as they cross the C boundary: the cause beside the value. A bad key is
 // cause 9.
-use morton::Length;
 use morton::Number;
-use morton::Point;
+use morton_cells::Length;
+use morton_cells::Point;
 ghost use mathlib.Core.Path.{_≡_};
-ghost use Rattle.morton.specs.Answer.{levelOf, parentOf, childOf, halfSizeOf, centerOf, pointCause};
+ghost use Rattle.morton.specs.Answer.{levelOf, parentOf, childOf};
+ghost use Rattle.morton_cells.specs.Cell.{halfSizeOf, centerOf, pointCause};
 ghost use Rattle.key_answer.specs.Key.{keyAnswer, halfSizeAnswer, centerLeft};
 
 // A level or a key; 0 where refused.
@@ -55,7 +56,7 @@ pub fn child(key: u64, which: u32) -> KeyAnswer
 pub fn half_size(key: u64) -> HalfSizeAnswer
     ensures { λ r. ⌜ r ≡ halfSizeAnswer (halfSizeOf key) ⌝ }
 {
-    let length = morton::half_size(key);
+    let length = morton_cells::half_size(key);
     match length {
         Length::Is(value) => HalfSizeAnswer { cause: 0, value },
         Length::Refused => HalfSizeAnswer {
@@ -69,7 +70,7 @@ pub fn half_size(key: u64) -> HalfSizeAnswer
 pub fn center(key: u64, center: &mut [f32; 3]) -> u32
     ensures { λ r. ⌜ (r ≡ pointCause (centerOf key)) × (now (center .exit) ≡ centerLeft (centerOf key) (now (center .entry))) ⌝ }
 {
-    let point = morton::center(key);
+    let point = morton_cells::center(key);
     match point {
         Point::At(p) => {
             *center = [p.x, p.y, p.z];

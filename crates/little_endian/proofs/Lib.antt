@@ -1,5 +1,5 @@
 pub mod Words
 pub mod Bytes
-pub mod Turns
+pub mod Runs
 pub mod NanBits
 pub mod NotANumber

@@ -1,7 +1,5 @@
 // Little-endian words in lent bytes, and the bits of floats: what the readers and writers of records
 // share. No function here is public: callers have tested that the bytes are there.
-pub mod runs;
-
 ghost use mathlib.Core.Path.{_≡_};
 ghost use Prim.Native.Nat.{_+_, _≤_};
 ghost use lib.ListN.{length};

@@ -10,9 +10,9 @@ use borrow.Author.Tests.{lt-ltb, le-ltb, eq-eqb, ne-eqb}
 use Rattle.little_endian.specs.Words.{wordAt, wordsFrom, over}
 use Rattle.mesh_read.specs.declared.ReadAnswer.{ReadAnswer}
 use Rattle.mesh_record.specs.Mesh.{Mesh}
-use Rattle.mesh_record.specs.Reading.{meshIn, refusalIn}
+use Rattle.mesh_checks.specs.Reading.{meshIn, refusalIn}
 use Rattle.mesh_read.specs.Reading.{left, refused, short, done, copied, reading}
-use Rattle.mesh_record.proofs.Contents.{coordinates-length, indices-length, meshIn-vertices}
+use Rattle.mesh_checks.proofs.Contents.{coordinates-length, indices-length, meshIn-vertices}
 
 module _ (m : Mesh) (coordinates : List Float) (indices : List ℕ) where
   pub copied-few-coordinates : length coordinates < length (m .coordinates) → left (short m) coordinates indices ≡ copied m coordinates indices

@@ -8,7 +8,7 @@ use lib.Ieee.{Float, binary32, ofBits}
 use Rattle.little_endian.specs.Words.{over}
 use Rattle.mesh_record.specs.declared.Refusal.{Refusal}
 use Rattle.mesh_record.specs.Mesh.{Mesh, vertexCount}
-use Rattle.mesh_record.specs.Reading.{meshIn, refusalIn}
+use Rattle.mesh_checks.specs.Reading.{meshIn, refusalIn}
 use Rattle.mesh_read.specs.declared.ReadAnswer.{ReadAnswer}
 
 -- everything that the call leaves

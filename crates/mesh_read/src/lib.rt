@@ -1,14 +1,14 @@
 // The reader of mesh records, document 02, CR 1: the refusals, then the room, then the copy. What is
 // lent is written only after every check has passed.
-use little_endian::runs::copy_floats;
-use little_endian::runs::copy_words;
 use little_endian::word_at;
-use mesh_record::reader::refusal_in;
+use mesh_checks::refusal_in;
+use words_read::copy_floats;
+use words_read::copy_words;
 ghost use mathlib.Core.Path.{_≡_};
 ghost use Prim.Native.Nat.{_+_, _*_};
 ghost use lib.ListN.{length};
 ghost use Rattle.little_endian.specs.Words.{wordAt};
-ghost use Rattle.mesh_record.specs.Reading.{meshIn};
+ghost use Rattle.mesh_checks.specs.Reading.{meshIn};
 ghost use Rattle.mesh_read.specs.Reading.{left, copied, reading};
 
 // What the reader answers. A field that the cause does not use is 0.

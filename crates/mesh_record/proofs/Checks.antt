@@ -1,14 +1,9 @@
--- The refusals of a header, each from the checks that lead to it: what failed, and what passed before it. `opening` and `reader::fields_in` cite
--- these.
+-- The refusals of what opens a header, each from the checks that lead to it: what failed, and what passed before it. `opening` cites these.
 use mathlib.Core.Path.{_≡_}
 use mathlib.Core.Logic.{_≢_}
-use mathlib.Core.List.{List}
-use Prim.Native.Nat.{ℕ, _+_, _*_, _%_, _≤_, _<_}
-use lib.ListN.{length}
+use Prim.Native.Nat.{ℕ, _≤_, _<_}
 use borrow.Author.Tests.{lt-ltb, le-ltb, eq-eqb, ne-eqb}
-use Rattle.little_endian.specs.Words.{wordAt}
 use Rattle.mesh_record.specs.Refusals.{none, malformed, badSize, badNumbering, opening}
-use Rattle.mesh_record.specs.Reading.{fieldsIn}
 
 module _ (version size numbering : ℕ) where
   pub opening-version : version ≢ 1 → malformed 0 ≡ opening version size numbering
@@ -32,39 +27,3 @@ module _ (version size numbering : ℕ) where
       pub opening-passed : numbering ≤ 1 → none ≡ opening version size numbering
       unfolding opening
       opening-passed h = rw (eq-eqb version 1 one, le-ltb size 2 least, le-ltb 128 size most, le-ltb 1 numbering h)
-
-module _ (bytes : List ℕ) where
-  pub fieldsIn-vertices : wordAt bytes 16 ≢ 28 → malformed 16 ≡ fieldsIn bytes
-  unfolding fieldsIn
-  fieldsIn-vertices h = rw (ne-eqb (wordAt bytes 16) 28 h)
-
-  module _ (vertices : wordAt bytes 16 ≡ 28) where
-    pub fieldsIn-count : wordAt bytes 20 % 3 ≢ 0 → malformed 20 ≡ fieldsIn bytes
-    unfolding fieldsIn
-    fieldsIn-count h = rw (eq-eqb (wordAt bytes 16) 28 vertices, ne-eqb (wordAt bytes 20 % 3) 0 h)
-
-    module _ (threes : wordAt bytes 20 % 3 ≡ 0) where
-      pub fieldsIn-indices : wordAt bytes 24 ≢ 28 + 12 * wordAt bytes 12 → malformed 24 ≡ fieldsIn bytes
-      unfolding fieldsIn
-      fieldsIn-indices h = rw (eq-eqb (wordAt bytes 16) 28 vertices, eq-eqb (wordAt bytes 20 % 3) 0 threes, ne-eqb (wordAt bytes 24) (28 + 12 * wordAt bytes 12) h)
-
-      module _ (indices : wordAt bytes 24 ≡ 28 + 12 * wordAt bytes 12) where
-        pub fieldsIn-length : length bytes ≢ 28 + 12 * wordAt bytes 12 + 4 * wordAt bytes 20 → malformed 24 ≡ fieldsIn bytes
-        unfolding fieldsIn
-        fieldsIn-length h =
-            rw (
-              eq-eqb (wordAt bytes 16) 28 vertices,
-              eq-eqb (wordAt bytes 20 % 3) 0 threes,
-              eq-eqb (wordAt bytes 24) (28 + 12 * wordAt bytes 12) indices,
-              ne-eqb (length bytes) (28 + 12 * wordAt bytes 12 + 4 * wordAt bytes 20) h,
-            )
-
-        pub fieldsIn-passed : length bytes ≡ 28 + 12 * wordAt bytes 12 + 4 * wordAt bytes 20 → none ≡ fieldsIn bytes
-        unfolding fieldsIn
-        fieldsIn-passed h =
-            rw (
-              eq-eqb (wordAt bytes 16) 28 vertices,
-              eq-eqb (wordAt bytes 20 % 3) 0 threes,
-              eq-eqb (wordAt bytes 24) (28 + 12 * wordAt bytes 12) indices,
-              eq-eqb (length bytes) (28 + 12 * wordAt bytes 12 + 4 * wordAt bytes 20) h,
-            )

@@ -2,4 +2,4 @@ pub mod LowestBad
 pub mod Checks
 pub mod Contents
 pub mod Passed
-mod Cases
+pub mod Cases

@@ -1,19 +1,14 @@
--- What is known where a check refuses nothing, and the refusal of a record from those of its parts. `reader::refusal_in` and the round trips cite
--- these.
-use mathlib.Core.Path.{_≡_, refl, _∙_, subst}
-use mathlib.Core.Logic.{_≢_}
-use mathlib.Core.Bool.{Bool, true, false, cond, not, _||_}
-use mathlib.Core.List.{List}
-use Prim.Native.Nat.{ℕ, _+_, _*_, _%_, _≤_, _<_}
+-- What is known where a check refuses nothing. The reader, the writer and the round trips cite these.
+use mathlib.Core.Path.{_≡_, refl, subst}
+use mathlib.Core.Bool.{Bool, true, false, cond, _||_}
+use Prim.Native.Nat.{ℕ, _+_, _*_, _≤_, _<_}
 use native.Mathlib.Omega.{arith}
 use lib.Dec.{T, ltb, eqb, lit≤}
 use lib.ListN.{length, getD}
-use borrow.Author.Tests.{ltb-true, ltb-false, eqb-true, eqb-false, not-false, lt-ltb, le-ltb, eq-eqb, ne-eqb}
-use Rattle.little_endian.specs.Words.{wordAt}
+use borrow.Author.Tests.{ltb-true, ltb-false, eqb-true, eqb-false, not-false}
 use Rattle.mesh_record.specs.declared.Refusal.{Refusal}
 use Rattle.mesh_record.specs.Mesh.{Mesh, vertexCount, finite, below}
-use Rattle.mesh_record.specs.Refusals.{none, malformed, badSize, badNumbering, orElse, differ, inThrees, opening, lowestBad, contents}
-use Rattle.mesh_record.specs.Reading.{meshIn, fieldsIn, refusalIn}
+use Rattle.mesh_record.specs.Refusals.{none, malformed, badSize, badNumbering, orElse, differ, opening, lowestBad, contents}
 use Rattle.mesh_record.proofs.LowestBad.{lowestBad-all}
 
 -- ---- one check, one part
@@ -59,28 +54,6 @@ opening-known version size numbering h =
       numbering-word = ltb-false 1 numbering (three .0);
     }
 
-pub record Fields (bytes : List ℕ) : Type 0 where
-  pub vertices-at : wordAt bytes 16 ≡ 28
-  pub threes : wordAt bytes 20 % 3 ≡ 0
-  pub indices-at : wordAt bytes 24 ≡ 28 + 12 * wordAt bytes 12
-  pub whole : length bytes ≡ 28 + 12 * wordAt bytes 12 + 4 * wordAt bytes 20
-
-pub fieldsIn-known : (bytes : List ℕ) → fieldsIn bytes .cause ≡ 0 → Fields bytes
-unfolding fieldsIn
-fieldsIn-known bytes h =
-    let last = cond (differ (length bytes) (28 + 12 * wordAt bytes 12 + 4 * wordAt bytes 20)) (malformed 24) none in
-    let later = cond (differ (wordAt bytes 24) (28 + 12 * wordAt bytes 12)) (malformed 24) last in
-    let one = check-passed (differ (wordAt bytes 16) 28) (malformed 16) (cond (not (inThrees (wordAt bytes 20))) (malformed 20) later) (lit≤ tt) h in
-    let two = check-passed (not (inThrees (wordAt bytes 20))) (malformed 20) later (lit≤ tt) (one .1) in
-    let three = check-passed (differ (wordAt bytes 24) (28 + 12 * wordAt bytes 12)) (malformed 24) last (lit≤ tt) (two .1) in
-    let four = check-passed (differ (length bytes) (28 + 12 * wordAt bytes 12 + 4 * wordAt bytes 20)) (malformed 24) none (lit≤ tt) (three .1) in
-    record {
-      vertices-at = eqb-true (wordAt bytes 16) 28 (not-false _ (one .0));
-      threes = eqb-true (wordAt bytes 20 % 3) 0 (not-false _ (two .0));
-      indices-at = eqb-true (wordAt bytes 24) (28 + 12 * wordAt bytes 12) (not-false _ (three .0));
-      whole = eqb-true (length bytes) (28 + 12 * wordAt bytes 12 + 4 * wordAt bytes 20) (not-false _ (four .0));
-    }
-
 pub record Sound (m : Mesh) : Type 0 where
   pub coordinates-finite : (i : ℕ) → i < length (m .coordinates) → finite (getD (m .coordinates) i 0) ≡ true
   pub indices-below : (i : ℕ) → i < length (m .indices) → getD (m .indices) i 0 < vertexCount m
@@ -97,53 +70,4 @@ contents-known start m h =
       coordinates-finite = lowestBad-all finite (m .coordinates) (ltb-false coordinate (length (m .coordinates)) (one .0));
       indices-below = λ i within. ltb-true (getD (m .indices) i 0) (vertexCount m)
           (lowestBad-all (below (vertexCount m)) (m .indices) (ltb-false index (length (m .indices)) (two .0)) i within);
-    }
-
--- ---- a record, from its parts
-
-module _ (bytes : List ℕ) where
-  pub refusalIn-short : length bytes < 28 → malformed (length bytes) ≡ refusalIn bytes
-  unfolding refusalIn
-  refusalIn-short h = rw (lt-ltb (length bytes) 28 h)
-
-  module _ (long : 28 ≤ length bytes) (version size numbering : ℕ) (first : Refusal) (hv : version ≡ wordAt bytes 0) (hs : size ≡ wordAt bytes 4)
-      (hw : numbering ≡ wordAt bytes 8) (is : first ≡ opening version size numbering) where
-    opened : first ≡ opening (wordAt bytes 0) (wordAt bytes 4) (wordAt bytes 8)
-    opened = is ∙ rw (hv, hs, hw)
-
-    pub refusalIn-opening : first .cause ≢ 0 → first ≡ refusalIn bytes
-    unfolding refusalIn
-    refusalIn-opening h = rw (le-ltb (length bytes) 28 long, ← opened, ne-eqb (first .cause) 0 h)
-
-    module _ (first-passed : first .cause ≡ 0) (second : Refusal) (fields : second ≡ fieldsIn bytes) where
-      pub refusalIn-fields : second .cause ≢ 0 → second ≡ refusalIn bytes
-      unfolding refusalIn
-      refusalIn-fields h = rw (le-ltb (length bytes) 28 long, ← opened, eq-eqb (first .cause) 0 first-passed, ← fields, ne-eqb (second .cause) 0 h)
-
-      pub refusalIn-contents : second .cause ≡ 0 → (third : Refusal) → third ≡ contents 28 (meshIn bytes) → third ≡ refusalIn bytes
-      unfolding refusalIn
-      refusalIn-contents h third is =
-          rw (le-ltb (length bytes) 28 long, ← opened, eq-eqb (first .cause) 0 first-passed, ← fields, eq-eqb (second .cause) 0 h) is
-
--- what is known of a record in which nothing is refused
-pub record Whole (bytes : List ℕ) : Type 0 where
-  pub long : 28 ≤ length bytes
-  pub opened : Opened (wordAt bytes 0) (wordAt bytes 4) (wordAt bytes 8)
-  pub fields : Fields bytes
-  pub sound : Sound (meshIn bytes)
-
-pub refusalIn-known : (bytes : List ℕ) → refusalIn bytes .cause ≡ 0 → Whole bytes
-unfolding refusalIn
-refusalIn-known bytes h =
-    let first = opening (wordAt bytes 0) (wordAt bytes 4) (wordAt bytes 8) in
-    let second = fieldsIn bytes in
-    let third = contents 28 (meshIn bytes) in
-    let long = check-passed (ltb (length bytes) 28) (malformed (length bytes)) (orElse first (orElse second third)) (lit≤ tt) h in
-    let parts = part-passed first (orElse second third) (long .1) in
-    let rest = part-passed second third (parts .1) in
-    record {
-      long = ltb-false (length bytes) 28 (long .0);
-      opened = opening-known (wordAt bytes 0) (wordAt bytes 4) (wordAt bytes 8) (parts .0);
-      fields = fieldsIn-known bytes (rest .0);
-      sound = contents-known 28 (meshIn bytes) (rest .1);
     }

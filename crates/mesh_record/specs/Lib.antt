@@ -1,3 +1,2 @@
 pub mod Mesh
 pub mod Refusals
-pub mod Reading

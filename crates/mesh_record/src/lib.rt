@@ -1,7 +1,4 @@
-// The mesh record of document 02, CR 1: the checks that the reader and the writer share, and in
-// `reader` the refusals of a record.
-pub mod reader;
-
+// The mesh record of document 02, CR 1: the checks that the reader and the writer share.
 ghost use mathlib.Core.Path.{_≡_};
 ghost use Rattle.mesh_record.specs.Refusals.{opening};
 ghost use Rattle.mesh_record.specs.Mesh.{finite};

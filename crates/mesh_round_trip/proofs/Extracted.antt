@@ -32,7 +32,7 @@ use Rattle.marching_cubes.proofs.ByCause.{accepted, room-enough}
 use Rattle.marching_cubes.proofs.Demands.{demand-3}
 use Rattle.mesh_record.specs.Mesh.{Mesh, vertexCount, recordBytes, Good}
 use Rattle.mesh_record.specs.Refusals.{none}
-use Rattle.mesh_record.specs.Reading.{meshIn}
+use Rattle.mesh_checks.specs.Reading.{meshIn}
 use Rattle.mesh_read.specs.Reading.{reading}
 use Rattle.mesh_read.specs.Reading.{left as Reading·left}
 use Rattle.mesh_record.proofs.Passed.{neither-left, neither-right}

@@ -11,7 +11,7 @@ use lib.Ieee.{Float, nan, inf, fin, binary32, isNan, nanBits, fits, ofBits, ofFi
 use lib.Ieee.Bits.{ofBits-toBits, toBits-lt, toBits-ofBits, nanBits-is, nanBits-above}
 use borrow.Author.Tests.{ltb-true, ltb-false, le-ltb}
 use Rattle.little_endian.proofs.Bytes.{Below}
-use Rattle.little_endian.proofs.Turns.{getD-map-at}
+use Rattle.little_endian.proofs.Runs.{getD-map-at}
 use Rattle.mesh_record.specs.Mesh.{finite}
 
 finite-not-nan : (bits : ℕ) → finite bits ≡ true → T (not (isNan (ofBits binary32 bits)))

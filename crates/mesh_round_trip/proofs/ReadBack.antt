@@ -15,7 +15,7 @@ use Rattle.little_endian.proofs.Bytes.{Below}
 use Rattle.mesh_record.specs.declared.Refusal.{Refusal}
 use Rattle.mesh_record.specs.Mesh.{Mesh, vertexCount, recordBytes, Good}
 use Rattle.mesh_record.specs.Refusals.{none, opening, contents}
-use Rattle.mesh_record.specs.Reading.{meshIn, refusalIn}
+use Rattle.mesh_checks.specs.Reading.{meshIn, refusalIn}
 use Rattle.mesh_read.specs.Reading.{Read, refused, short, done, copied, reading}
 use Rattle.mesh_read.specs.Reading.{left as Reading·left}
 use Rattle.mesh_record.proofs.Checks.{opening-passed}

@@ -13,11 +13,13 @@ use Rattle.little_endian.proofs.Bytes.{Below, below-cons, below-append, below-t
 use Rattle.mesh_record.specs.declared.Refusal.{Refusal}
 use Rattle.mesh_record.specs.Mesh.{Mesh, vertexCount, finite, below, header, recordBytes, Good}
 use Rattle.mesh_record.specs.Refusals.{none, lowestBad, contents}
-use Rattle.mesh_record.specs.Reading.{meshIn, refusalIn}
+use Rattle.mesh_checks.specs.Reading.{meshIn, refusalIn}
 use Rattle.mesh_record.proofs.LowestBad.{all-lowestBad}
-use Rattle.mesh_record.proofs.Checks.{opening-passed, fieldsIn-passed}
-use Rattle.mesh_record.proofs.Contents.{contents-passed, coordinates-length, indices-length, meshIn-vertices}
-use Rattle.mesh_record.proofs.Passed.{Whole, refusalIn-known, refusalIn-contents}
+use Rattle.mesh_record.proofs.Checks.{opening-passed}
+use Rattle.mesh_checks.proofs.Checks.{fieldsIn-passed}
+use Rattle.mesh_record.proofs.Contents.{contents-passed}
+use Rattle.mesh_checks.proofs.Contents.{coordinates-length, indices-length, meshIn-vertices}
+use Rattle.mesh_checks.proofs.Passed.{Whole, refusalIn-known, refusalIn-contents}
 use Rattle.mesh_write.proofs.Puts.{record-length}
 
 -- ---- seven words

@@ -2,12 +2,12 @@
 // the bytes. Nothing is written before all of these have passed.
 use little_endian::bits_of;
 use little_endian::put_word;
-use little_endian::runs::put_floats;
-use little_endian::runs::put_words;
 use mesh_record::Refusal;
 use mesh_record::is_finite;
 use mesh_record::opening;
 use mesh_record::refused;
+use words_write::put_floats;
+use words_write::put_words;
 ghost use mathlib.Core.Path.{_≡_};
 ghost use mathlib.Core.List.{map};
 ghost use Prim.Native.Nat.{_≤_};

@@ -1,9 +1,1 @@
 pub mod TopBit
-pub mod Digits
-pub mod Carry
-pub mod Axis
-pub mod Packing
-pub mod Thirds
-pub mod Exact
-pub mod Interleaved
-pub mod Cases

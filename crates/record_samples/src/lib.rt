@@ -1,5 +1,5 @@
 // The samples of a record, out of its bytes.
-use little_endian::runs::copy_floats;
+use words_read::copy_floats;
 ghost use mathlib.Core.Path.{_≡_};
 ghost use Prim.Native.Nat.{min};
 ghost use lib.ListN.{length};

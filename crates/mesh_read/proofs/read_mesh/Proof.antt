@@ -2,7 +2,7 @@
 use mathlib.Core.Path.{sym, ap, _∙_}
 use Rattle.mesh_record.specs.declared.Refusal.{Refusal}
 use Rattle.mesh_read.specs.Reading.{left, refused}
-use Rattle.mesh_record.proofs.Passed.{refusalIn-known}
+use Rattle.mesh_checks.proofs.Passed.{refusalIn-known}
 use Rattle.mesh_read.proofs.Copies.{reading-refused, reading-passed}
 use borrow.Author.Needs.{needs}
 use Rattle.mesh_read.proofs.read_mesh.Statement.{statement}

@@ -6,7 +6,7 @@ use native.Mathlib.Omega.{arith}
 use lib.ListN.{length, drop}
 use lib.Ieee.{binary32, toBits}
 use borrow.Author.Tests.{not-true, not-false}
-use Rattle.little_endian.proofs.Turns.{getD-map-at}
+use Rattle.little_endian.proofs.Runs.{getD-map-at}
 use Rattle.mesh_record.specs.Mesh.{finite}
 use Rattle.mesh_record.specs.Refusals.{lowestBad}
 use Rattle.mesh_record.proofs.LowestBad.{lowestBad-good, lowestBad-bad, lowestBad-end}

@@ -1,0 +1,4 @@
+pub mod Checks
+pub mod Contents
+pub mod Passed
+mod Cases

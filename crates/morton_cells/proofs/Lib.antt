@@ -1,0 +1,4 @@
+pub mod Packing
+pub mod Thirds
+pub mod Exact
+pub mod Cases

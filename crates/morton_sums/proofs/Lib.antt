@@ -1,0 +1,4 @@
+pub mod Digits
+pub mod Carry
+pub mod Axis
+pub mod Interleaved
