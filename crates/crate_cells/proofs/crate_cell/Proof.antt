@@ -2,9 +2,12 @@
 use mathlib.Core.Path.{refl, sym, _∙_}
 use native.Mathlib.Omega.{arith}
 use lib.Dec.{ltb}
+use lib.ListN.{getD}
 use borrow.Author.Needs.{needs}
 use borrow.Author.Tests.{ltb-true}
 use Rattle.walk.proofs.Bools.{and-left, and-right}
+use Rattle.packed_tables.proofs.Words.{inThrees}
+use Rattle.lent_mesh.specs.Grid.{insideOf}
 use Rattle.crate_cells.proofs.RowEdges.{case-lt, row-edges, row-edges-all, row-count}
 use Rattle.regular_cells.proofs.RegularTest.{regular-of}
 use Rattle.crate_cells.proofs.HeldCell.{held-cell}
@@ -82,35 +85,39 @@ visit-all-requires c κs =
     )
 
 same-length : tie.Need-same-length
-same-length c = search needs
+same-length c = c .before .before .before .before .before .work .given
 
 same-length-2 : tie.Need-same-length-2
-same-length-2 c = search needs
+same-length-2 c = c .before .before .before .vertices .given
 
 same-length-3 : tie.Need-same-length-3
-same-length-3 c = search needs
+same-length-3 c = c .before .indices .given
 
 same-length-4 : tie.Need-same-length-4
-same-length-4 c = search needs
+same-length-4 c = c .before .before .before .before .before .work2 .given
 
 same-length-5 : tie.Need-same-length-5
-same-length-5 c = search needs
+same-length-5 c = c .before .before .before .vertices2 .given
 
 same-length-6 : tie.Need-same-length-6
-same-length-6 c = search needs
+same-length-6 c = c .before .indices2 .given
 
 returns : tie.Need-returns
 returns c =
     let visited = c .before .before .before .before .before .before in
     let found = visited .before .before .before .before .before .before .before .before .before in
     let start = found .before .before .before .before .before .before .before .before in
+    let args = start .args in
     let given = start .pre .1 .1 .0 in
     let room = start .pre .1 .0 in
-    let rows = start .args .rows .now in (
-      held-cell _ _ _ _ _ (omega arith) (omega arith) (room .layer-le) (room .row-le) _ _ _ _ _ _ _ _ _ _ _ _ _ _
-          (row-edges _ _ _ _ (start .args .case) (given .3) rows (given .0)) (row-edges-all _ _ _ _ (start .args .case) (given .3) rows (given .0))
-          (found .found .ensures) (visited .regular-visits .ensures .0),
-      (omega (arith, row-count _ _ _ _ (start .args .case) (given .3) rows (given .0)), omega arith),
+    let rows = args .rows .now in
+    let inside = insideOf (args .n) (args .samples .now) in
+    let grown = visited .regular-visits .ensures .1 in (
+      held-cell (args .n) (args .x) (args .y) (args .layer) (args .row) (omega (arith, start .pre .0 .in-x)) (omega (arith, start .pre .0 .in-y)) (room .layer-le) (room .row-le)
+          (args .samples .now) (args .z) inside (inThrees (getD rows (args .case) 0)) (args .work .now) (found .found .result) (args .vertices .now) (args .indices .now) (args .counts) _ _ _ _ _
+          (row-edges inside (args .x) (args .y) (args .z) (args .case) (given .3) rows (given .0))
+          (row-edges-all inside (args .x) (args .y) (args .z) (args .case) (given .3) rows (given .0)) (found .found .ensures) (visited .regular-visits .ensures .0),
+      (omega (arith, grown .0, row-count inside (args .x) (args .y) (args .z) (args .case) (given .3) rows (given .0)), grown .1),
     )
 
 returns-2 : tie.Need-returns-2
@@ -118,13 +125,17 @@ returns-2 c =
     let visited = c .before .before .before .before .before .before in
     let found = visited .before .before .before .before .before .before .before .before .before in
     let start = found .before .before .before .before .before .before .before .before in
+    let args = start .args in
     let given = start .pre .1 .1 .0 in
     let room = start .pre .1 .0 in
-    let rows = start .args .rows .now in (
-      held-cell _ _ _ _ _ (omega arith) (omega arith) (room .layer-le) (room .row-le) _ _ _ _ _ _ _ _ _ _ _ _ _ _
-          (row-edges _ _ _ _ (start .args .case) (given .3) rows (given .0)) (row-edges-all _ _ _ _ (start .args .case) (given .3) rows (given .0))
-          (found .found .ensures) (visited .visit-all .ensures .0),
-      (omega (arith, row-count _ _ _ _ (start .args .case) (given .3) rows (given .0)), omega arith),
+    let rows = args .rows .now in
+    let inside = insideOf (args .n) (args .samples .now) in
+    let grown = visited .visit-all .ensures .1 in (
+      held-cell (args .n) (args .x) (args .y) (args .layer) (args .row) (omega (arith, start .pre .0 .in-x)) (omega (arith, start .pre .0 .in-y)) (room .layer-le) (room .row-le)
+          (args .samples .now) (args .z) inside (inThrees (getD rows (args .case) 0)) (args .work .now) (found .found .result) (args .vertices .now) (args .indices .now) (args .counts) _ _ _ _ _
+          (row-edges inside (args .x) (args .y) (args .z) (args .case) (given .3) rows (given .0))
+          (row-edges-all inside (args .x) (args .y) (args .z) (args .case) (given .3) rows (given .0)) (found .found .ensures) (visited .visit-all .ensures .0),
+      (omega (arith, grown .0, row-count inside (args .x) (args .y) (args .z) (args .case) (given .3) rows (given .0)), grown .1),
     )
 
 pub crate-cell-spec : {M : Type 1} → statement M

@@ -114,10 +114,14 @@ loop-again c =
     let spanned = ended .before .before in
     let called = spanned .before .before .before in
     let filled = called .before .before .before .before .before .before .before .before in
-    let at = filled .before .before .before .loop .inv in
-    let parity = parity-layer _ _ _ (at .2) in
-    let next =
-    reached-next _ _ _ 243840 _ _ _ (at .0) (layer-done _ _ _ _ _ _ _ _ _ parity (called .count-layer .ensures .0) (ended .end-layer .ensures)) (called .count-layer .ensures .1 .0) (called .count-layer .ensures .1 .1) in (
+    let turn = filled .before .before .before in
+    let loop = turn .loop in
+    let at = loop .inv in
+    let args = turn .before .before .before .before .before .before .before .before .before .args in
+    let here = held (loop .work) (loop .reached) in
+    let parity = parity-layer (args .n) (loop .z) (loop .row) (at .2) in
+    let done = layer-done (args .numbering) (args .n) (insideOf (args .n) (args .samples .now)) (loop .z) _ _ _ _ here parity (called .count-layer .ensures .0) (ended .end-layer .ensures) in
+    let next = reached-next countIn _ _ 243840 (loop .z) here _ (at .0) done (called .count-layer .ensures .1 .0) (called .count-layer .ensures .1 .1) in (
       next,
       omega arith,
       parity,

@@ -72,13 +72,17 @@ loop-again : tie.Need-loop-again Inv-loop μ-loop
 loop-again c =
     let called = c .before .before .before .before .before .before in
     let turn = called .before .before .before .before .before in
-    let parity = parity-next _ _ (turn .before .loop .inv .2) in (
-      reached-next _ _ _ 1920 _ _ _ (turn .before .loop .inv .0) (called .row-cells .ensures .0) (called .row-cells .ensures .1 .0) (called .row-cells .ensures .1 .1),
-      omega arith,
-      parity ∙ ap (λ (k : ℕ). k % 2) (add-assoc _ _ 1),
-      search needs,
-      search needs,
-      search needs,
+    let loop = turn .before .loop in
+    let at = loop .inv in
+    let args = turn .before .before .before .before .before .before .before .args in
+    let here = inHand (loop .work) (loop .vertices) (loop .indices) (loop .reached) in
+    let parity = parity-next (args .z * (args .n - 1) + loop .y) (loop .row) (at .2) in (
+      reached-next handCount _ _ 1920 (loop .y) here _ (at .0) (called .row-cells .ensures .0) (called .row-cells .ensures .1 .0) (called .row-cells .ensures .1 .1),
+      omega (arith, turn .loop-test .taken),
+      parity ∙ ap (λ (k : ℕ). k % 2) (add-assoc (args .z * (args .n - 1)) (loop .y) 1),
+      c .before .before .before .before .before .work .given ∙ at .3,
+      c .before .before .before .vertices .given ∙ at .4,
+      c .before .indices .given ∙ at .5,
     )
 
 same-length : tie.Need-same-length Inv-loop μ-loop

@@ -89,7 +89,9 @@ layer-cells-requires c κs =
     let filled = c .before .before .before .before .before .before .before .before .before in
     let turn = filled .before .before .before .before in
     let tables = turn .before .before .before .before in
-    let pre = tables .before .before .before .before .before .before .before .before .pre in
+    let start = tables .before .before .before .before .before .before .before .before in
+    let args = start .args in
+    let pre = start .pre in
     let most = pre .0 .1 in
     let room = pre .0 .3 in
     let last = pre .1 .0 .most in
@@ -98,8 +100,8 @@ layer-cells-requires c κs =
     let same = at .4 in (
       (tables .before .before .before .row-words .ensures, tables .before .before .regular-words .ensures, tables .before .new-words .ensures, tables .coordinates .ensures),
       (
-        (layer-of _ _ _ (pre .0 .0) most (pre .0 .2) (omega arith), at .2),
-        ((at .3, filled .fill-layer2 .ensures), record { enough = omega arith; ordered = at .0 .ordered; fits = omega arith }),
+        (layer-of (args .samples .now) (args .n) (turn .loop .z) (pre .0 .0) most (pre .0 .2) (omega (arith, last, filled .before .before .if1 .taken)), at .2),
+        ((at .3, filled .fill-layer2 .ensures), record { enough = omega (arith, room, same); ordered = at .0 .ordered; fits = omega (arith, most, last, grown, filled .before .before .if1 .taken) }),
       ),
     )
 
@@ -136,15 +138,20 @@ loop-again c =
     let ended = c .before .before in
     let called = ended .before .before .before .before .before .before .before .before in
     let filled = called .before .before .before .before .before .before .before .before .before .before in
-    let at = filled .before .before .before .before .loop .inv in
-    let parity = parity-layer _ _ _ (at .2) in (
-      reached-next _ _ _ 243840 _ _ _ (at .0) (layer-done _ _ _ _ _ _ _ _ _ _ _ parity (called .layer-cells .ensures .0) (ended .end-layer .ensures)) (called .layer-cells .ensures .1 .0) (called .layer-cells .ensures .1 .1),
-      omega arith,
+    let turn = filled .before .before .before .before in
+    let loop = turn .loop in
+    let at = loop .inv in
+    let args = turn .before .before .before .before .before .before .before .before .before .before .before .before .args in
+    let here = inHand (loop .work) (loop .vertices) (loop .indices) (loop .reached) in
+    let parity = parity-layer (args .n) (loop .z) (loop .row) (at .2) in
+    let done = layer-done (args .numbering) (args .n) (args .samples .now) (loop .z) _ _ _ _ _ _ here parity (called .layer-cells .ensures .0) (ended .end-layer .ensures) in (
+      reached-next handCount _ _ 243840 (loop .z) here _ (at .0) done (called .layer-cells .ensures .1 .0) (called .layer-cells .ensures .1 .1),
+      omega (arith, filled .before .before .if1 .taken),
       parity,
       filled .fill-layer2 .ensures,
       c .before .work2 .given ∙ ended .before .before .before .before .before .before .before .work .given ∙ at .4,
-      search needs,
-      search needs,
+      ended .before .before .before .before .before .vertices .given ∙ at .5,
+      ended .before .before .before .indices .given ∙ at .6,
     )
 
 same-length : tie.Need-same-length Inv-loop μ-loop

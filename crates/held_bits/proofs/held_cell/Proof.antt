@@ -1,4 +1,5 @@
 -- `held_cell`: what is named and not held is put, and counted.
+use mathlib.Core.Path.{_∙_}
 use native.Mathlib.Omega.{arith}
 use Prim.Native.Nat.{_+_, _/_, _%_, _≤_}
 use lib.Count.{ones}
@@ -85,7 +86,7 @@ add-t33 c =
     omega (arith, start .pre .1 .1 .1 .1)
 
 same-length : tie.Need-same-length
-same-length c = search needs
+same-length c = c .before .before .before .before .work2 .given ∙ c .before .before .before .before .before .before .before .before .before .work .given
 
 returns : tie.Need-returns
 returns c =
@@ -101,7 +102,7 @@ returns c =
       cell-done (first .args .names .now) (first .args .work .now) _ _ _ _ _ _ _ (first .args .counts .written) (pre .0 .0) (pre .0 .1) (new .before .before .named-set .ensures) (new .before .held-set .ensures) (new .new-set .ensures) (done .first-made .ensures)
           _ _ _ _ _ _ _ _ _ _ _ _ (layer-read .before .layer-word .ensures .0) (layer-read .set-at .ensures) (row-read .before .row-word .ensures .0) (row-read .set-at2 .ensures)
           (layer-put .before .layer-word2 .ensures .0) (layer-put .put-set .ensures) (row-put .before .row-word2 .ensures .0) (row-put .put-set2 .ensures),
-      (omega arith, omega (arith, pre .1 .1 .1 .0)),
+      (omega (arith, g, pre .1 .1 .1 .0), omega (arith, g, pre .1 .1 .1 .0)),
     )
 
 pub held-cell-spec : {M : Type 1} → statement M

@@ -1,5 +1,5 @@
 -- `visit_all`: what is left to visit leads to the same end.
-use mathlib.Core.Path.{_≡_, refl}
+use mathlib.Core.Path.{_≡_, refl, _∙_}
 use Prim.Native.Nat.{_+_, _≤_}
 use native.Mathlib.Omega.{arith}
 use lib.ListN.{length}
@@ -50,14 +50,22 @@ loop-less c = search needs
 loop-again : tie.Need-loop-again Inv-loop μ-loop
 loop-again c =
     let visited = c .before .before .before .before .before .before in
-    let turn = visited .before .before .before .before .before .before in (
-      omega arith,
-      omega arith,
-      omega arith,
-      omega arith,
-      omega arith,
-      edges-rest _ _ (omega arith) (turn .loop .inv .5),
-      turn-taken _ _ _ _ _ (turn .loop .left) (turn .loop .rest) _ _ _ _ _ (omega arith) (visited .visit .ensures .0) (turn .loop .inv .6),
+    let taken = visited .before .before .before .before .before .loop-test .taken in
+    let turn = visited .before .before .before .before .before .before in
+    let inv = turn .loop .inv in
+    let args = turn .before .before .before .before .before .args in
+    let counted = visited .visit .ensures .1 in (
+      omega (arith, counted .0, counted .1, inv .0),
+      omega (arith, counted .0, taken, inv .1),
+      c .before .before .before .before .before .work .given ∙ inv .2,
+      c .before .before .before .vertices .given ∙ inv .3,
+      c .before .indices .given ∙ inv .4,
+      edges-rest (turn .loop .left) (turn .loop .rest) taken (inv .5),
+      turn-taken (args .n) (args .samples .now) (args .x) (args .y) (args .z) (turn .loop .left) (turn .loop .rest)
+          (inHand (inCell (turn .loop .work) (args .layer) (args .row) (turn .loop .current)) (turn .loop .vertices) (turn .loop .indices) (turn .loop .reached))
+          _ (args .count) (args .edges)
+          (inHand (inCell (args .work .now) (args .layer) (args .row) (args .current .now)) (args .vertices .now) (args .indices .now) (args .counts)) taken
+          (visited .visit .ensures .0) (inv .6),
     )
 
 same-length : tie.Need-same-length Inv-loop μ-loop
