@@ -48,7 +48,7 @@ typedef struct {
  * After 6, 7    both are unchanged.
  * After 0, 6, 7 the first 8 * n * n + 6 * n words of work are 0, whatever they held; the rest is unchanged.
  * After 1 to 5  nothing lent has changed.
- * Definition: outcome, crates/marching_cubes/specs/Outcome.antt. The proof tells NaN from other floats and not one NaN from another; what is said
+ * Definition: outcome, crates/outcome/specs/Outcome.antt. The proof tells NaN from other floats and not one NaN from another; what is said
  * to be unchanged is not written, so its bits stay too. */
 bridgeyarn_answer bridgeyarn_extract(uint32_t size, uint32_t numbering,
     const float *samples, size_t sample_count,

@@ -1,7 +1,7 @@
 // The extraction.
-use marching_cubes::Answer;
+use outcome::Answer;
 ghost use mathlib.Core.Path.{_≡_};
-ghost use Rattle.marching_cubes.specs.Outcome.{left, outcome};
+ghost use Rattle.outcome.specs.Outcome.{left, outcome};
 
 // The mesh of the lent samples, in the crate numbering (0) or the joined (1); see `extract`.
 #[no_mangle]

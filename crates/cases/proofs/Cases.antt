@@ -32,7 +32,7 @@ use Rattle.walk.specs.Cache.{fresh, stored, putColumn, getColumn, inLayer, put,
 use Rattle.walk.specs.Numbering.{choose, hooks, mesh, number, joined, crate}
 use Rattle.lent_mesh.specs.Grid.{positionAt, floatsOf}
 use Rattle.sample_check.specs.Samples.{lowestBad}
-use Rattle.marching_cubes.specs.Outcome.{Outcome, surfaceOf, filled, outcome}
+use Rattle.outcome.specs.Outcome.{Outcome, surfaceOf, filled, outcome}
 
 -- what is asked: of the whole call by size, numbering and samples, of one cell, of one edge, for the bare offset, or of a key
 data Case : Type 0 where

@@ -1,4 +1,4 @@
--- What the count's code counts is the mesh of its numbering, and nothing past the words that it keeps has changed. For `marching_cubes::count`.
+-- What the count's code counts is the mesh of its numbering, and nothing past the words that it keeps has changed. For `passes::count`.
 use mathlib.Core.Path.{_≡_, refl, sym, ap, _∙_, subst}
 use mathlib.Core.Bool.{false}
 use mathlib.Core.List.{List, []}

@@ -1,5 +1,5 @@
 -- Layers whose cells visit nothing. Before anything is made they leave all as it was; afterwards they change no output, and of the working memory only the
--- words that the size asks for. For `walk`, which begins past such layers, and for `marching_cubes::fill`, whose mesh is that of all layers.
+-- words that the size asks for. For `walk`, which begins past such layers, and for `passes::fill`, whose mesh is that of all layers.
 use mathlib.Core.Path.{_≡_, refl, sym, ap, _∙_}
 use mathlib.Core.Bool.{true, false}
 use mathlib.Core.Logic.{⊎-elim}

@@ -13,8 +13,8 @@ use Rattle.marching_cubes_tables.proofs.Tests.{lt-or-ge}
 use Rattle.sample_check.specs.Samples.{lowestBad}
 use Rattle.lent_mesh.specs.Grid.{positionAt, floatsOf}
 use Rattle.lent_mesh.proofs.Floats.{floatsOf-length}
-use Rattle.marching_cubes.specs.Outcome.{Outcome, workRoom, Surface, surfaceOf, over, refused, meshed, outcome}
-use Rattle.marching_cubes.proofs.Sizes.{square-le}
+use Rattle.outcome.specs.Outcome.{Outcome, workRoom, Surface, surfaceOf, over, refused, meshed, outcome}
+use Rattle.passes.proofs.Sizes.{square-le}
 use Rattle.marching_cubes.proofs.ByCause.{sample-bad, accepted, room-enough}
 use Rattle.listing_runs.specs.Runs.{linesOf, vertexLineAt, faceLineAt}
 use Rattle.listing_text.specs.Lines.{firstLine, refusedLine, meshText}

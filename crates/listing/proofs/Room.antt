@@ -11,7 +11,7 @@ use Rattle.walk.specs.Cache.{fresh}
 use Rattle.walk.specs.Numbering.{mesh, joined, crate}
 use Rattle.walk.proofs.Counts.{indices-most, made-le-indices}
 use Rattle.lent_mesh.specs.Grid.{insideOf}
-use Rattle.marching_cubes.specs.Outcome.{Surface, surface, surfaceOf}
+use Rattle.outcome.specs.Outcome.{Surface, surface, surfaceOf}
 
 either : (P : Surface → Type 0) (b : Bool) (c j : Surface) → P c → P j → P (cond b c j)
 either P true c j hc hj = hc

@@ -9,7 +9,7 @@ use Rattle.sample_record.specs.Record.{recordOf, causeOf, placeOf, sizeOf, numb
 use Rattle.record_samples.specs.Samples.{samplesOf}
 use Rattle.sample_check.specs.Samples.{lowestBad}
 use Rattle.lent_mesh.specs.Grid.{positionAt, floatsOf}
-use Rattle.marching_cubes.specs.Outcome.{Surface, surfaceOf}
+use Rattle.outcome.specs.Outcome.{Surface, surfaceOf}
 use Rattle.listing_text.specs.Lines.{refusedLine, meshText}
 
 -- the mesh of an accepted grid, or cause 5

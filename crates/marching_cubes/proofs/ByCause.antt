@@ -11,8 +11,8 @@ use lib.Ieee.{Float}
 use borrow.Author.Tests.{lt-ltb, le-ltb, eq-eqb, ne-eqb}
 use Rattle.lent_mesh.specs.Grid.{positionAt, floatsOf}
 use Rattle.sample_check.specs.Samples.{lowestBad}
-use Rattle.marching_cubes.specs.Outcome.{Outcome, left, workRoom, Surface, surfaceOf, over, refused, meshed, filled, outcome}
-use Rattle.marching_cubes.specs.declared.Answer.{Answer}
+use Rattle.outcome.specs.Outcome.{Outcome, left, workRoom, Surface, surfaceOf, over, refused, meshed, filled, outcome}
+use Rattle.outcome.specs.declared.Answer.{Answer}
 
 module _ (n numbering : ℕ) (samples : List Float) (work : List ℕ) (vertices : List Float) (indices : List ℕ) where
   abbrev ends : Outcome → Type 0

@@ -17,8 +17,8 @@ use Rattle.walk_positions.proofs.Nearness.{NearVisit, vertices-near}
 use Rattle.lent_mesh.specs.Grid.{insideOf, positionAt, floatsOf}
 use Rattle.sample_check.specs.Samples.{lowestBad}
 use Rattle.sample_check.proofs.Samples.{good-anyBad-none, anyBad-none-length}
-use Rattle.marching_cubes.specs.Outcome.{Outcome, workRoom, Surface, surface, surfaceOf, over, refused, meshed, filled, outcome}
-use Rattle.marching_cubes.specs.Accepted.{Accepted}
+use Rattle.outcome.specs.Outcome.{Outcome, workRoom, Surface, surface, surfaceOf, over, refused, meshed, filled, outcome}
+use Rattle.passes.specs.Accepted.{Accepted}
 use Rattle.marching_cubes.proofs.ByCause.{accepted, room-enough}
 
 -- Any two permitted outcomes are equal.

@@ -1,5 +1,3 @@
-pub mod Sizes
 pub mod ByCause
-pub mod Left
-pub mod Passes
+mod AfterCount
 pub mod Demands

@@ -25,9 +25,9 @@ use Rattle.lent_mesh.specs.Grid.{insideOf, positionAt, floatsOf}
 use Rattle.lent_mesh.proofs.Floats.{floatsOf-length}
 use Rattle.sample_check.specs.Samples.{lowestBad}
 use Rattle.sample_check.proofs.Samples.{anyBad-lowestBad, anyBad-none-good}
-use Rattle.marching_cubes.specs.declared.Answer.{Answer}
-use Rattle.marching_cubes.specs.Outcome.{Outcome, Surface, surface, surfaceOf, workRoom, over, refused, meshed, filled, outcome}
-use Rattle.marching_cubes.specs.Outcome.{left as Outcome·left}
+use Rattle.outcome.specs.declared.Answer.{Answer}
+use Rattle.outcome.specs.Outcome.{Outcome, Surface, surface, surfaceOf, workRoom, over, refused, meshed, filled, outcome}
+use Rattle.outcome.specs.Outcome.{left as Outcome·left}
 use Rattle.marching_cubes.proofs.ByCause.{accepted, room-enough}
 use Rattle.marching_cubes.proofs.Demands.{demand-3}
 use Rattle.mesh_record.specs.Mesh.{Mesh, vertexCount, recordBytes, Good}

@@ -1,4 +1,4 @@
--- What the walk's code does to the lent lists in one cell. A private model, which the contracts of the walk's functions cite; the crate `marching_cubes` proves
+-- What the walk's code does to the lent lists in one cell. A private model, which the contracts of the walk's functions cite; the crate `passes` proves
 -- that it comes to the defined mesh, and nobody need believe it.
 use mathlib.Core.Bool.{cond}
 use mathlib.Core.List.{List}

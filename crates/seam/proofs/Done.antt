@@ -9,7 +9,7 @@ use lib.Ieee.{Float}
 use Rattle.lent_mesh.specs.Grid.{positionAt, floatsOf}
 use Rattle.sample_check.specs.Samples.{lowestBad}
 use Rattle.marching_cubes_tables.proofs.Tests.{both-left, both-right}
-use Rattle.marching_cubes.specs.Outcome.{Outcome, workRoom, Surface, surfaceOf, over, refused, meshed, filled, outcome}
+use Rattle.outcome.specs.Outcome.{Outcome, workRoom, Surface, surfaceOf, over, refused, meshed, filled, outcome}
 
 -- an outcome that is given where a test holds
 record Guarded : Type 0 where

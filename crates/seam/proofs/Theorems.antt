@@ -10,8 +10,8 @@ use lib.Ieee.{Float}
 use Rattle.walk.specs.Walk.{Inside}
 use Rattle.walk.specs.Numbering.{mesh, joined}
 use Rattle.lent_mesh.specs.Grid.{insideOf}
-use Rattle.marching_cubes.specs.Outcome.{Outcome, left, surfaceOf, over, outcome}
-use Rattle.marching_cubes.specs.declared.Answer.{Answer}
+use Rattle.outcome.specs.Outcome.{Outcome, left, surfaceOf, over, outcome}
+use Rattle.outcome.specs.declared.Answer.{Answer}
 use Rattle.seam.specs.Seam.{edgeOfVertex, NoOpenSeam}
 use Rattle.seam.proofs.Squares.{cells-balanced}
 use Rattle.seam.proofs.VisitedSides.{visits-sides}

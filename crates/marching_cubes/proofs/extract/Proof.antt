@@ -7,9 +7,9 @@ use lib.ListN.{length}
 use borrow.Author.Needs.{needs}
 use borrow.Author.Tests.{ltb-true, ltb-false}
 use Rattle.sample_check.proofs.Samples.{anyBad-lowestBad}
-use Rattle.marching_cubes.specs.declared.Answer.{Answer}
-use Rattle.marching_cubes.specs.Outcome.{left}
-use Rattle.marching_cubes.proofs.Sizes.{square-le, samples-le}
+use Rattle.outcome.specs.declared.Answer.{Answer}
+use Rattle.outcome.specs.Outcome.{left}
+use Rattle.passes.proofs.Sizes.{square-le, samples-le}
 use Rattle.marching_cubes.proofs.ByCause.{size-under, size-over, numbering-over, samples-not-whole, work-short, sample-bad, accepted}
 use Rattle.marching_cubes.proofs.extract.Statement.{statement}
 use Rattle.marching_cubes.proofs.extract.Tie as tie

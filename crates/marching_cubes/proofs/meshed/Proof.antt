@@ -4,9 +4,9 @@ use Prim.Native.Nat.{ℕ}
 use native.Mathlib.Omega.{arith}
 use lib.ListN.{length}
 use borrow.Author.Needs.{needs}
-use Rattle.marching_cubes.specs.Outcome.{workRoom, surfaceOf}
+use Rattle.outcome.specs.Outcome.{workRoom, surfaceOf}
 use Rattle.marching_cubes.proofs.ByCause.{vertices-left, indices-left, done-left}
-use Rattle.marching_cubes.proofs.Passes.{cleared-again, cleared-zeros, over-none, over-no-floats}
+use Rattle.marching_cubes.proofs.AfterCount.{cleared-again, cleared-zeros, over-none, over-no-floats}
 use Rattle.marching_cubes.proofs.meshed.Statement.{statement}
 use Rattle.marching_cubes.proofs.meshed.Tie as tie
 

@@ -1,14 +1,14 @@
--- The two passes of `meshed`: what is counted, and what the walk over the outputs leaves.
+-- The two passes: what is counted, and what the walk over the outputs leaves.
 use mathlib.Core.Path.{_≡_, refl, sym, ap, _∙_}
 use mathlib.Core.Bool.{true, false, cond}
 use mathlib.Core.Logic.{⊎-elim}
-use mathlib.Core.List.{List, [], _∷_, _++_, map}
+use mathlib.Core.List.{List, [], _++_, map}
 use Prim.Native.Nat.{ℕ, _+_, _*_, _≤_, _<_}
 use native.Mathlib.Nat.{zero-add}
 use native.Mathlib.Omega.{arith}
 use lib.Dec.{eqb}
-use lib.ListN.{length, getD, drop, replicate, length-replicate, getD-replicate, length-map, length-append, length-drop, List·getD-append}
-use lib.Seq.{sets-eq, drop-drop, drop-append-seam}
+use lib.ListN.{length, getD, drop, length-map}
+use lib.Seq.{sets-eq, drop-drop}
 use lib.Ieee.{Float}
 use borrow.Author.Tests.{eqb-true}
 use Rattle.walk.specs.Walk.{visits}
@@ -27,34 +27,9 @@ use Rattle.held_bits.specs.HeldCell.{Held, heldRoom}
 use Rattle.grid_count.specs.Steps.{countSteps}
 use Rattle.grid_count.proofs.Spans.{span-alike}
 use Rattle.grid_count.proofs.CountedMesh.{nothing, crate-counted, joined-counted}
-use Rattle.marching_cubes.specs.Outcome.{workRoom, Surface, surfaceOf, over}
-use Rattle.marching_cubes.proofs.Left.{LeftOf, span-left}
-
--- ---- working memory of which the first k words are zero
-
-abbrev pub cleared : ℕ → List ℕ → List ℕ
-cleared k work = over (replicate k 0) work
-
-zeros-length : (k : ℕ) → length {A = ℕ} (replicate k 0) ≡ k
-zeros-length k = length-replicate k 0
-
-pub cleared-at : (k : ℕ) (work : List ℕ) (i : ℕ) → i < k → getD (cleared k work) i 0 ≡ 0
-cleared-at k work i h =
-    let l : i < length {A = ℕ} (replicate k 0) = omega (arith, zeros-length k) in
-    List·getD-append (replicate k 0) (drop (length {A = ℕ} (replicate k 0)) work) 0 i l ∙ getD-replicate k i 0 0 h
-
-pub cleared-tail : (k : ℕ) (work : List ℕ) → drop k (cleared k work) ≡ drop k work
-cleared-tail k work =
-    ap (λ (j : ℕ). drop j (cleared k work)) (sym (zeros-length k)) ∙ drop-append-seam (replicate k 0) (drop (length {A = ℕ} (replicate k 0)) work) ∙ ap (λ (j : ℕ). drop j work) (zeros-length k)
-
-pub cleared-same : (k : ℕ) (work old : List ℕ) → drop k work ≡ drop k old → cleared k work ≡ cleared k old
-cleared-same k work old e =
-    ap (λ (j : ℕ). replicate k 0 ++ drop j work) (zeros-length k) ∙ ap (λ (l : List ℕ). replicate k 0 ++ l) e ∙ ap (λ (j : ℕ). replicate k 0 ++ drop j old) (sym (zeros-length k))
-
-pub cleared-length : (k : ℕ) (work : List ℕ) → k ≤ length work → length (cleared k work) ≡ length work
-cleared-length k work h =
-    let l = zeros-length k in
-    length-append (replicate k 0) (drop (length {A = ℕ} (replicate k 0)) work) ∙ simp length-drop (omega arith)
+use Rattle.outcome.specs.Outcome.{workRoom, Surface, surfaceOf, over}
+use Rattle.passes.proofs.Cleared.{cleared, cleared-at, cleared-tail, cleared-same, cleared-length}
+use Rattle.passes.proofs.Left.{LeftOf, span-left}
 
 module _ (n numbering : ℕ) (samples : List Float) where
   abbrev s : Surface
@@ -76,14 +51,6 @@ module _ (n numbering : ℕ) (samples : List Float) where
         w .vertices-are ∙ stored-floats n samples (s .made) floats rv ∙ ap (λ (k : ℕ). floatsOf (map (positionAt n samples) (s .made)) ++ drop k floats) (sym count),
         w .indices-are ∙ sets-eq (s .indices) list 0 (omega arith) ∙ ap (λ (k : ℕ). s .indices ++ drop k list) (zero-add (length (s .indices))),
       )
-
--- cleared twice
-pub cleared-again : (k : ℕ) (work first second : List ℕ) → first ≡ cleared k work → second ≡ cleared k first → second ≡ cleared k work
-cleared-again k work first second e f = f ∙ cleared-same k first work (ap (drop k) e ∙ cleared-tail k work)
-
--- what `fill` is told of the memory that `count` leaves
-pub cleared-zeros : (k : ℕ) (work first : List ℕ) → first ≡ cleared k work → (i : ℕ) → i < k → getD first i 0 ≡ 0
-cleared-zeros k work first e i h = ap (λ (l : List ℕ). getD l i 0) e ∙ cleared-at k work i h
 
 -- ---- count
 
@@ -146,15 +113,3 @@ counted-span n numbering samples old work span room first within =
     (λ k. joined-counted n (insideOf n samples) work (rw e (omega arith)) numbering b k .written ∙ indices-count joined [] (insideOf n samples) n k)
     within)
     (bool-cases (eqb numbering 0))
-
--- ---- a grid without a surface: nothing is written, and there was nothing to write
-
-pub over-none : {A : Type 0} (new old : List A) → length new ≡ 0 → old ≡ over new old
-over-none [] old e = refl
-over-none (a ∷ new) old e = absurd (omega arith)
-
-pub over-no-floats : (n : ℕ) (samples : List Float) (s : Surface) (vertices : List Float) → length (s .made) ≡ 0
-    → vertices ≡ over (floatsOf (map (positionAt n samples) (s .made))) vertices
-over-no-floats n samples s vertices e =
-    over-none (floatsOf (map (positionAt n samples) (s .made))) vertices
-    (floatsOf-length (map (positionAt n samples) (s .made)) ∙ ap (λ (k : ℕ). 3 * k) (length-map (s .made) (positionAt n samples) ∙ e))

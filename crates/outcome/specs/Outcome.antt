@@ -11,7 +11,7 @@ use Rattle.walk.specs.Cache.{fresh}
 use Rattle.walk.specs.Numbering.{Mesh, mesh, joined, crate}
 use Rattle.sample_check.specs.Samples.{lowestBad}
 use Rattle.lent_mesh.specs.Grid.{insideOf, positionAt, floatsOf}
-use Rattle.marching_cubes.specs.declared.Answer.{Answer}
+use Rattle.outcome.specs.declared.Answer.{Answer}
 
 -- everything that the call leaves
 pub record Outcome : Type 0 where

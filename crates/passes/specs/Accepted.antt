@@ -4,7 +4,7 @@ use mathlib.Core.List.{List}
 use Prim.Native.Nat.{ℕ, _+_, _*_, _≤_}
 use lib.ListN.{length}
 use lib.Ieee.{Float}
-use Rattle.marching_cubes.specs.Outcome.{workRoom}
+use Rattle.outcome.specs.Outcome.{workRoom}
 
 pub record Accepted (n : ℕ) (samples : List Float) (work : List ℕ) : Type 0 where
   pub least : 2 ≤ n

@@ -3,9 +3,9 @@ use mathlib.Core.Path.{sym}
 use native.Mathlib.Nat.{le-of-eq}
 use native.Mathlib.Omega.{arith}
 use borrow.Author.Needs.{needs}
-use Rattle.marching_cubes.proofs.Passes.{filled-pass}
-use Rattle.marching_cubes.proofs.fill.Statement.{statement}
-use Rattle.marching_cubes.proofs.fill.Tie as tie
+use Rattle.passes.proofs.Passes.{filled-pass}
+use Rattle.passes.proofs.fill.Statement.{statement}
+use Rattle.passes.proofs.fill.Tie as tie
 
 work-room-requires : tie.Need-work-room-requires
 work-room-requires c κs = c .before .before .before .before .pre .0 .0 .most

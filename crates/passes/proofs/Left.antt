@@ -24,7 +24,7 @@ use Rattle.walk_models.proofs.OwnedWalk.{owned-walk}
 use Rattle.walk_models.proofs.CacheWalk.{cache-walk}
 use Rattle.lent_mesh.specs.Grid.{insideOf}
 use Rattle.lent_mesh.specs.Stored.{storeAt}
-use Rattle.marching_cubes.specs.Outcome.{workRoom, Surface, surface, surfaceOf}
+use Rattle.outcome.specs.Outcome.{workRoom, Surface, surface, surfaceOf}
 use Rattle.grid_walk.specs.declared.Span.{Span}
 use Rattle.grid_walk.specs.Growth.{GrowsWithin}
 use Rattle.row_walk.specs.Steps.{Hand, rowParity, cellStep}

@@ -4,9 +4,9 @@ use Prim.Native.Nat.{ℕ}
 use lib.ListN.{replicate}
 use borrow.Author.Needs.{needs}
 use borrow.Author.Tests.{eq-eqb, ne-eqb}
-use Rattle.marching_cubes.specs.Outcome.{over}
-use Rattle.marching_cubes.proofs.hold_nothing.Statement.{statement}
-use Rattle.marching_cubes.proofs.hold_nothing.Tie as tie
+use Rattle.outcome.specs.Outcome.{over}
+use Rattle.passes.proofs.hold_nothing.Statement.{statement}
+use Rattle.passes.proofs.hold_nothing.Tie as tie
 
 held-room-requires : tie.Need-held-room-requires
 held-room-requires c κs = search needs

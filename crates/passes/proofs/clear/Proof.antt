@@ -6,8 +6,8 @@ use native.Mathlib.Omega.{arith}
 use lib.ListN.{length, length-set, length-replicate, drop, replicate, set}
 use borrow.Author.Needs.{needs}
 use borrow.Author.Fill.{fill-more}
-use Rattle.marching_cubes.proofs.clear.Statement.{statement}
-use Rattle.marching_cubes.proofs.clear.Tie as tie
+use Rattle.passes.proofs.clear.Statement.{statement}
+use Rattle.passes.proofs.clear.Tie as tie
 
 abbrev Inv-loop : tie.InvT-loop
 Inv-loop work₀ count i₀ work i = (work ≡ replicate i 0 ++ drop i work₀) × (length work ≡ length work₀) × (i ≤ count)

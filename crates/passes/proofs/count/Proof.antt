@@ -1,8 +1,8 @@
 -- `count`: from nothing held, and cleared afterwards.
 use borrow.Author.Needs.{needs}
-use Rattle.marching_cubes.proofs.Passes.{counted-pass, counted-span}
-use Rattle.marching_cubes.proofs.count.Statement.{statement}
-use Rattle.marching_cubes.proofs.count.Tie as tie
+use Rattle.passes.proofs.Passes.{counted-pass, counted-span}
+use Rattle.passes.proofs.count.Statement.{statement}
+use Rattle.passes.proofs.count.Tie as tie
 
 work-room-requires : tie.Need-work-room-requires
 work-room-requires c κs = search needs

@@ -1,0 +1,4 @@
+pub mod Sizes
+pub mod Cleared
+mod Left
+mod Passes
