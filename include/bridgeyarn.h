@@ -82,7 +82,7 @@ typedef struct {
 
 /* Whether and where the surface crosses the edge whose ends have the samples a and b, in order. A bad sample is refused first; then there
  * is a crossing exactly where one of the two is <= 0.0.
- * Definition: edgeAnswer (crossingOf a b), crates/bridgeyarn/specs/Edge.antt and crates/marching_cubes_impl/specs/Edge.antt. */
+ * Definition: edgeAnswer (crossingOf a b), crates/edge_answer/specs/Edge.antt and crates/marching_cubes_impl/specs/Edge.antt. */
 bridgeyarn_edge_answer bridgeyarn_edge(float a, float b);
 
 /* ---- a sample record
@@ -100,7 +100,7 @@ typedef struct {
 /* What the bytes hold, or the first refusal in this order: under 20 bytes (BAD_RECORD, place = length); version (BAD_RECORD, place 0); size
  * under 2 or over 128 (BAD_SIZE); BAD_NUMBERING; BAD_COUNT; place of the samples (BAD_RECORD, place 16); length other than 20 + 4 * count
  * (BAD_RECORD, place 20). The bytes are only read, and the samples not looked at; any bytes are taken, and none (NULL, 0).
- * Definition: recordAnswer (recordOf 128 bytes), crates/bridgeyarn/specs/Record.antt and crates/sample_record/specs/Record.antt. */
+ * Definition: recordAnswer (recordOf 128 bytes), crates/record_answer/specs/Record.antt and crates/sample_record/specs/Record.antt. */
 bridgeyarn_record_answer bridgeyarn_record(const uint8_t *bytes, size_t length);
 
 /* ---- a mesh record
