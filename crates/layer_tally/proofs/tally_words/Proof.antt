@@ -28,9 +28,7 @@ loop-holds c =
 corners-at-requires : tie.Need-corners-at-requires Inv-loop μ-loop
 corners-at-requires c κs =
     let pre = c .before .before .pre in
-    let most = pre .0 .1 in
-    let end = pre .1 .0 .1 in
-    omega arith
+    omega (arith, pre .0 .1, pre .1 .0 .1, c .loop-test .taken)
 
 mul-mask : tie.Need-mul-mask Inv-loop μ-loop
 mul-mask c =
@@ -43,10 +41,7 @@ mul-mask c =
 element-copy-out-mask : tie.Need-element-copy-out-mask Inv-loop μ-loop
 element-copy-out-mask c =
     let pre = c .before .before .before .pre in
-    let most = pre .0 .1 in
-    let end = pre .1 .0 .1 in
-    let within = c .before .before .loop .inv .1 in
-    omega arith
+    omega (arith, pre .0 .1, pre .1 .0 .1, c .before .before .loop .inv .1)
 
 mul-new-in : tie.Need-mul-new-in Inv-loop μ-loop
 mul-new-in c =
@@ -59,10 +54,7 @@ mul-new-in c =
 element-copy-out-new-in : tie.Need-element-copy-out-new-in Inv-loop μ-loop
 element-copy-out-new-in c =
     let pre = c .before .before .before .before .pre in
-    let most = pre .0 .1 in
-    let end = pre .1 .0 .1 in
-    let within = c .before .before .before .loop .inv .1 in
-    omega arith
+    omega (arith, pre .0 .1, pre .1 .0 .1, c .before .before .before .loop .inv .1)
 
 new-in-requires : tie.Need-new-in-requires Inv-loop μ-loop
 new-in-requires c κs = search needs
@@ -114,7 +106,7 @@ loop-again c =
     let grown = inv .3 in
     let ordered = inv .4 in
     let end = pre .1 .0 .1 in
-    let turning = c .before .before .before .before .before .loop-test in
+    let taken = c .before .before .before .before .before .loop-test .taken in
     let corners = c .before .before .before .before .corners-at in
     let new = c .before .new-in .ensures in
     let triangles = c .triangles-in .ensures in
@@ -122,16 +114,16 @@ loop-again c =
     let here : Count = record { made = turn .loop .made; written = turn .loop .written } in
     let next =
     words-next (args .low .now) (args .high .now) (args .n) (turn .loop .i) (args .top) (corners .result) (args .masks .now) (args .firsts .now) here
-    (pre .0 .0) (pre .0 .1) (omega arith) (pre .0 .2) (pre .0 .3) (corners .ensures)
+    (pre .0 .0) (pre .0 .1) (omega (arith, end, taken)) (pre .0 .2) (pre .0 .3) (corners .ensures)
     (args .from) (record { made = args .counts .made; written = args .counts .written }) (inv .0) (inv .2) in
     let more = new-most (corners .result) (getD (args .masks .now) (turn .loop .i) 0) (getD (args .firsts .now) (turn .loop .i) 0) (args .top) in (
-      omega arith,
-      omega arith,
+      omega (arith, begun),
+      omega (arith, taken),
       (λ samples z lower upper above tops.
           ap₂ (λ (a b : ℕ). record { made = turn .loop .made + a; written = turn .loop .written + 3 * b }) (new .0) (triangles .0)
           ∙ next samples z lower upper above tops),
-      omega arith,
-      omega (arith, new .0, triangles .0, more),
+      omega (arith, begun, grown, few),
+      omega (arith, ordered, new .0, triangles .0, more),
     )
 
 returns : tie.Need-returns Inv-loop μ-loop
@@ -144,9 +136,9 @@ returns c =
     let grown = inv .3 in
     let before : Count = record { made = args .counts .made; written = args .counts .written } in
     let after : Count = record { made = at-loop .loop .made; written = at-loop .loop .written } in
-    let all : at-loop .loop .i ≡ args .to = omega arith in (
+    let all : at-loop .loop .i ≡ args .to = omega (arith, within, c .loop-test .left) in (
       subst (λ (i : ℕ). WordsCounted (args .low .now) (args .high .now) (args .n) (args .from) i (args .top) before after) all (inv .2),
-      (omega arith, inv .4),
+      (omega (arith, grown, all), inv .4),
     )
 
 pub tally-words-spec : {M : Type 1} → statement M
