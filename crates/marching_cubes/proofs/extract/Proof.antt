@@ -1,18 +1,29 @@
 -- `extract`: the tests in the order of the causes.
 use mathlib.Core.Path.{_≡_, sym, ap, _∙_}
+use mathlib.Core.List.{List}
 use Prim.Native.Nat.{ℕ, _+_, _*_, _≤_, _<_}
 use native.Mathlib.Nat.{le-of-lt}
 use native.Mathlib.Omega.{arith}
 use lib.ListN.{length}
+use lib.Ieee.{Float}
 use borrow.Author.Needs.{needs}
 use borrow.Author.Tests.{ltb-true, ltb-false}
+use Rattle.sample_check.specs.Samples.{lowestBad}
 use Rattle.sample_check.proofs.Samples.{anyBad-lowestBad}
 use Rattle.outcome.specs.declared.Answer.{Answer}
-use Rattle.outcome.specs.Outcome.{left}
+use Rattle.outcome.specs.Outcome.{Outcome, left, filled, surfaceOf}
 use Rattle.passes.proofs.Sizes.{square-le, samples-le}
 use Rattle.marching_cubes.proofs.ByCause.{size-under, size-over, numbering-over, samples-not-whole, work-short, sample-bad, accepted}
 use Rattle.marching_cubes.proofs.extract.Statement.{statement}
 use Rattle.marching_cubes.proofs.extract.Tie as tie
+
+-- over plain variables: among the records of the walk the two equations are dear to join
+answered : (r s : Answer) (work : List ℕ) (vertices : List Float) (indices : List ℕ) (o : Outcome)
+    → r ≡ s → o ≡ left s work vertices indices → left r work vertices indices ≡ o
+answered r s work vertices indices o e f = ap (λ (x : Answer). left x work vertices indices) e ∙ sym f
+
+filled-by : (o p q : Outcome) → o ≡ q → p ≡ q → o ≡ p
+filled-by o p q e f = e ∙ sym f
 
 refused-requires : tie.Need-refused-requires
 refused-requires c κs = search needs
@@ -20,7 +31,8 @@ refused-requires c κs = search needs
 returns : tie.Need-returns
 returns c =
     let a = c .before .before .before .before .before .before .args in
-    ap (λ (r : Answer). left r (a .work .now) (a .vertices .now) (a .indices .now)) (c .refused .ensures) ∙ sym (size-under _ _ _ _ _ _ (c .before .if1 .taken))
+    answered (c .refused .result) _ (a .work .now) (a .vertices .now) (a .indices .now) _ (c .refused .ensures)
+    (size-under (a .size) (a .numbering) (a .samples .now) (a .work .now) (a .vertices .now) (a .indices .now) (c .before .if1 .taken))
 
 refused-requires-2 : tie.Need-refused-requires-2
 refused-requires-2 c κs = search needs
@@ -28,7 +40,8 @@ refused-requires-2 c κs = search needs
 returns-2 : tie.Need-returns-2
 returns-2 c =
     let a = c .before .before .before .before .before .before .before .args in
-    ap (λ (r : Answer). left r (a .work .now) (a .vertices .now) (a .indices .now)) (c .refused2 .ensures) ∙ sym (size-over _ _ _ _ _ _ (c .before .before .if1 .left) (c .before .if2 .taken))
+    answered (c .refused2 .result) _ (a .work .now) (a .vertices .now) (a .indices .now) _ (c .refused2 .ensures)
+    (size-over (a .size) (a .numbering) (a .samples .now) (a .work .now) (a .vertices .now) (a .indices .now) (c .before .before .if1 .left) (c .before .if2 .taken))
 
 refused-requires-3 : tie.Need-refused-requires-3
 refused-requires-3 c κs = search needs
@@ -36,7 +49,8 @@ refused-requires-3 c κs = search needs
 returns-3 : tie.Need-returns-3
 returns-3 c =
     let a = c .before .before .before .before .before .before .before .before .args in
-    ap (λ (r : Answer). left r (a .work .now) (a .vertices .now) (a .indices .now)) (c .refused3 .ensures) ∙ sym (numbering-over _ _ _ _ _ _ (c .before .before .before .if1 .left) (c .before .before .if2 .left) (c .before .if3 .taken))
+    answered (c .refused3 .result) _ (a .work .now) (a .vertices .now) (a .indices .now) _ (c .refused3 .ensures)
+    (numbering-over (a .size) (a .numbering) (a .samples .now) (a .work .now) (a .vertices .now) (a .indices .now) (c .before .before .before .if1 .left) (c .before .before .if2 .left) (c .before .if3 .taken))
 
 mul-if4 : tie.Need-mul-if4
 mul-if4 c = omega (arith, square-le (c .before .before .before .before .before .before .before .args .size) 128 (c .before .if2 .left))
@@ -55,8 +69,8 @@ refused-requires-4 c κs = search needs
 returns-4 : tie.Need-returns-4
 returns-4 c =
     let a = c .before .before .before .before .before .before .before .before .before .args in
-    ap (λ (r : Answer). left r (a .work .now) (a .vertices .now) (a .indices .now)) (c .refused4 .ensures)
-    ∙ sym (samples-not-whole _ _ _ _ _ _ (c .before .before .before .before .if1 .left) (c .before .before .before .if2 .left) (c .before .before .if3 .left) (c .before .if4 .taken))
+    answered (c .refused4 .result) _ (a .work .now) (a .vertices .now) (a .indices .now) _ (c .refused4 .ensures)
+    (samples-not-whole (a .size) (a .numbering) (a .samples .now) (a .work .now) (a .vertices .now) (a .indices .now) (c .before .before .before .before .if1 .left) (c .before .before .before .if2 .left) (c .before .before .if3 .left) (c .before .if4 .taken))
 
 work-room-requires : tie.Need-work-room-requires
 work-room-requires c κs = c .before .before .if2 .left
@@ -69,8 +83,8 @@ returns-5 c =
     let a = c .before .before .before .before .before .before .before .before .before .before .before .args in
     let room = c .before .before .work-room .ensures in
     let short = c .before .if5 .taken in
-    ap (λ (r : Answer). left r (a .work .now) (a .vertices .now) (a .indices .now)) (c .refused5 .ensures)
-    ∙ sym (work-short _ _ _ _ _ _ (c .before .before .before .before .before .before .if1 .left) (c .before .before .before .before .before .if2 .left) (c .before .before .before .before .if3 .left) (c .before .before .before .if4 .left) (omega arith))
+    answered (c .refused5 .result) _ (a .work .now) (a .vertices .now) (a .indices .now) _ (c .refused5 .ensures)
+    (work-short (a .size) (a .numbering) (a .samples .now) (a .work .now) (a .vertices .now) (a .indices .now) (c .before .before .before .before .before .before .if1 .left) (c .before .before .before .before .before .if2 .left) (c .before .before .before .before .if3 .left) (c .before .before .before .if4 .left) (omega (arith, room, short)))
 
 any-bad-requires : tie.Need-any-bad-requires
 any-bad-requires c κs = search needs
@@ -86,33 +100,33 @@ returns-6 c =
     let a = c .before .before .before .before .before .before .before .before .before .before .before .before .before .before .args in
     let room = c .before .before .before .before .before .work-room .ensures in
     let enough = c .before .before .before .before .if5 .left in
-    let bad = ltb-true _ _ (sym (anyBad-lowestBad (a .samples .now)) ∙ sym (c .before .before .before .any-bad .ensures) ∙ c .before .before .if6 .taken) in
-    ap (λ (r : Answer). left r (a .work .now) (a .vertices .now) (a .indices .now)) (c .refused6 .ensures ∙ rw (c .before .lowest-bad .ensures))
-    ∙ sym (sample-bad _ _ _ _ _ _ (c .before .before .before .before .before .before .before .before .before .if1 .left) (c .before .before .before .before .before .before .before .before .if2 .left) (c .before .before .before .before .before .before .before .if3 .left) (c .before .before .before .before .before .before .if4 .left) (omega arith) bad)
+    let bad = ltb-true (lowestBad (a .samples .now)) (length (a .samples .now)) (sym (anyBad-lowestBad (a .samples .now)) ∙ sym (c .before .before .before .any-bad .ensures) ∙ c .before .before .if6 .taken) in
+    answered (c .refused6 .result) _ (a .work .now) (a .vertices .now) (a .indices .now) _ (c .refused6 .ensures ∙ ap (λ (place : ℕ). record { cause = 5; place = place; vertices = 0; indices = 0 }) (c .before .lowest-bad .ensures))
+    (sample-bad (a .size) (a .numbering) (a .samples .now) (a .work .now) (a .vertices .now) (a .indices .now) (c .before .before .before .before .before .before .before .before .before .if1 .left) (c .before .before .before .before .before .before .before .before .if2 .left) (c .before .before .before .before .before .before .before .if3 .left) (c .before .before .before .before .before .before .if4 .left) (omega (arith, room, enough)) bad)
 
 meshed-requires : tie.Need-meshed-requires
 meshed-requires c κs =
     let room = c .before .before .before .before .before .before .work-room .ensures in
     let enough = c .before .before .before .before .before .if5 .left in
-    record { least = c .before .before .before .before .before .before .before .before .before .before .if1 .left; most = c .before .before .before .before .before .before .before .before .before .if2 .left; samples-whole = c .before .before .before .before .before .before .before .if4 .left; work-room = omega arith }
+    record { least = c .before .before .before .before .before .before .before .before .before .before .if1 .left; most = c .before .before .before .before .before .before .before .before .before .if2 .left; samples-whole = c .before .before .before .before .before .before .before .if4 .left; work-room = omega (arith, room, enough) }
 
 same-length : tie.Need-same-length
-same-length c = search needs
+same-length c = c .before .before .before .before .before .work .given
 
 same-length-2 : tie.Need-same-length-2
-same-length-2 c = search needs
+same-length-2 c = c .before .before .before .vertices .given
 
 same-length-3 : tie.Need-same-length-3
-same-length-3 c = search needs
+same-length-3 c = c .before .indices .given
 
 returns-7 : tie.Need-returns-7
 returns-7 c =
     let a = c .before .before .before .before .before .before .before .before .before .before .before .before .before .before .before .before .before .before .before .before .before .before .args in
     let room = c .before .before .before .before .before .before .before .before .before .before .before .before .before .work-room .ensures in
     let enough = c .before .before .before .before .before .before .before .before .before .before .before .before .if5 .left in
-    let good = ltb-false _ _ (sym (anyBad-lowestBad (a .samples .now)) ∙ sym (c .before .before .before .before .before .before .before .before .before .before .before .any-bad .ensures) ∙ c .before .before .before .before .before .before .before .before .before .before .if6 .left) in
-    c .before .before .before .before .before .before .meshed .ensures
-    ∙ sym (accepted _ _ _ _ _ _ (c .before .before .before .before .before .before .before .before .before .before .before .before .before .before .before .before .before .if1 .left) (c .before .before .before .before .before .before .before .before .before .before .before .before .before .before .before .before .if2 .left) (c .before .before .before .before .before .before .before .before .before .before .before .before .before .before .before .if3 .left) (c .before .before .before .before .before .before .before .before .before .before .before .before .before .before .if4 .left) (omega arith) good)
+    let good = ltb-false (lowestBad (a .samples .now)) (length (a .samples .now)) (sym (anyBad-lowestBad (a .samples .now)) ∙ sym (c .before .before .before .before .before .before .before .before .before .before .before .any-bad .ensures) ∙ c .before .before .before .before .before .before .before .before .before .before .if6 .left) in
+    filled-by _ _ (filled (a .size) (a .numbering) (a .samples .now) (a .work .now) (a .vertices .now) (a .indices .now) (surfaceOf (a .size) (a .numbering) (a .samples .now))) (c .before .before .before .before .before .before .meshed .ensures)
+    (accepted (a .size) (a .numbering) (a .samples .now) (a .work .now) (a .vertices .now) (a .indices .now) (c .before .before .before .before .before .before .before .before .before .before .before .before .before .before .before .before .before .if1 .left) (c .before .before .before .before .before .before .before .before .before .before .before .before .before .before .before .before .if2 .left) (c .before .before .before .before .before .before .before .before .before .before .before .before .before .before .before .if3 .left) (c .before .before .before .before .before .before .before .before .before .before .before .before .before .before .if4 .left) (omega (arith, room, enough)) good)
 
 pub extract-spec : {M : Type 1} → statement M
 extract-spec =
