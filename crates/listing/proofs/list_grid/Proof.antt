@@ -3,7 +3,9 @@ use mathlib.Core.Path.{_≡_, sym, subst}
 use mathlib.Core.List.{List}
 use Prim.Native.Nat.{ℕ}
 use native.Mathlib.Omega.{arith}
-use lib.ListN.{length}
+use lib.ListN.{length, length-replicate}
+use lib.Ieee.{Float, ofBits, binary32}
+use Rattle.outcome.specs.Outcome.{left}
 use Rattle.listing_words.specs.Put.{Put}
 use Rattle.listing_text.specs.Lines.{refusedLine}
 use Rattle.listing.specs.Listing.{gridText}
@@ -14,13 +16,13 @@ use Rattle.listing.proofs.list_grid.Statement.{statement}
 use Rattle.listing.proofs.list_grid.Tie as tie
 
 slice-aggregate-extract : tie.Need-slice-aggregate-extract
-slice-aggregate-extract c = search needs
+slice-aggregate-extract c = length-replicate {A = ℕ} 434 0
 
 slice-aggregate-extract-2 : tie.Need-slice-aggregate-extract-2
-slice-aggregate-extract-2 c = search needs
+slice-aggregate-extract-2 c = length-replicate {A = Float} 11340 (ofBits binary32 0)
 
 slice-aggregate-extract-3 : tie.Need-slice-aggregate-extract-3
-slice-aggregate-extract-3 c = search needs
+slice-aggregate-extract-3 c = length-replicate {A = ℕ} 3780 0
 
 extract-requires : tie.Need-extract-requires
 extract-requires c κs = search needs
@@ -29,7 +31,7 @@ put-refused-requires : tie.Need-put-refused-requires
 put-refused-requires c κs = search needs
 
 same-length : tie.Need-same-length
-same-length c = search needs
+same-length c = c .before .text .given
 
 returns : tie.Need-returns
 returns c =
@@ -38,17 +40,19 @@ returns c =
     let made = refused .before .before .before .before .before in
     let start = made .before .before .before .before .before .before in
     let given = start .pre .0 in
+    let last = made .extract .last .1 .1 .1 in
+    let o = left (made .extract .result) (last .0) (last .1 .0) (last .1 .1 .0) in
     let owed : gridText (start .args .size) (start .args .numbering) (start .args .samples .now) ≡ refusedLine (made .extract .result .cause) (made .extract .result .place) =
-    own-refused (start .args .size) (start .args .numbering) (start .args .samples .now) (given .0) (given .1) (given .2) (given .3) _ (made .extract .ensures) (refused .if1 .taken) in (
+    own-refused (start .args .size) (start .args .numbering) (start .args .samples .now) (given .0) (given .1) (given .2) (given .3) o (made .extract .ensures) (refused .if1 .taken) in (
       subst (λ (piece : List ℕ). Put (start .args .text .now) 0 piece (put .put-refused .last .0) (put .put-refused .result)) (sym owed) (put .put-refused .ensures .0),
       omega (arith, put .put-refused .ensures .1),
     )
 
 slice-aggregate-put-mesh : tie.Need-slice-aggregate-put-mesh
-slice-aggregate-put-mesh c = search needs
+slice-aggregate-put-mesh c = sym (c .before .before .before .before .before .before .before .extract .kept .1 .1 .1 .1 .0)
 
 slice-aggregate-put-mesh-2 : tie.Need-slice-aggregate-put-mesh-2
-slice-aggregate-put-mesh-2 c = search needs
+slice-aggregate-put-mesh-2 c = sym (c .before .before .before .before .before .before .before .before .extract .kept .1 .1 .1 .1 .1 .0)
 
 put-mesh-requires : tie.Need-put-mesh-requires
 put-mesh-requires c κs =
@@ -56,14 +60,16 @@ put-mesh-requires c κs =
     let made = listed .before .before .before .before .before in
     let start = made .before .before .before .before .before .before in
     let given = start .pre .0 in
-    let room = own-room (start .args .size) (start .args .numbering) (start .args .samples .now) (given .0) (given .1) (given .2) (given .3) _ (made .extract .ensures) (listed .if1 .left) in
+    let last = made .extract .last .1 .1 .1 in
+    let o = left (made .extract .result) (last .0) (last .1 .0) (last .1 .1 .0) in
+    let room = own-room (start .args .size) (start .args .numbering) (start .args .samples .now) (given .0) (given .1) (given .2) (given .3) o (made .extract .ensures) (listed .if1 .left) in
     let text = text-le (made .extract .result .vertices) (made .extract .result .indices) (room .0) (room .1) in
-    let floats : length (made .extract .last .1 .1 .1 .1 .0) ≡ 11340 = made .extract .kept .1 .1 .1 .1 .0 in
-    let words : length (made .extract .last .1 .1 .1 .1 .1 .0) ≡ 3780 = made .extract .kept .1 .1 .1 .1 .1 .0 in
+    let floats : length (last .1 .0) ≡ 11340 = made .extract .kept .1 .1 .1 .1 .0 in
+    let words : length (last .1 .1 .0) ≡ 3780 = made .extract .kept .1 .1 .1 .1 .1 .0 in
     ((omega (arith, room .0, room .1, floats), omega (arith, room .1, words)), omega (arith, text, start .pre .1))
 
 same-length-2 : tie.Need-same-length-2
-same-length-2 c = search needs
+same-length-2 c = c .before .text2 .given
 
 returns-2 : tie.Need-returns-2
 returns-2 c =
@@ -75,8 +81,10 @@ returns-2 c =
     let size = start .args .size in
     let numbering = start .args .numbering in
     let samples = start .args .samples .now in
-    let owed = own-mesh size numbering samples (given .0) (given .1) (given .2) (given .3) _ (made .extract .ensures) (listed .if1 .left) in
-    let room = own-room size numbering samples (given .0) (given .1) (given .2) (given .3) _ (made .extract .ensures) (listed .if1 .left) in (
+    let last = made .extract .last .1 .1 .1 in
+    let o = left (made .extract .result) (last .0) (last .1 .0) (last .1 .1 .0) in
+    let owed = own-mesh size numbering samples (given .0) (given .1) (given .2) (given .3) o (made .extract .ensures) (listed .if1 .left) in
+    let room = own-room size numbering samples (given .0) (given .1) (given .2) (given .3) o (made .extract .ensures) (listed .if1 .left) in (
       subst (λ (piece : List ℕ). Put (start .args .text .now) 0 piece (put .put-mesh .last .0) (put .put-mesh .result)) (sym (owed .text)) (put .put-mesh .ensures .0),
       omega (arith, put .put-mesh .ensures .1, text-le (made .extract .result .vertices) (made .extract .result .indices) (room .0) (room .1)),
     )
