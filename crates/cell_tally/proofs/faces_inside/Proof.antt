@@ -1,14 +1,35 @@
 -- `faces_inside`: for each face the bits that its four words have.
-use mathlib.Core.Path.{_∙_, refl}
+use mathlib.Core.Path.{_≡_}
+use Prim.Native.Nat.{ℕ, _+_}
 use native.Mathlib.Omega.{arith}
 use Rattle.cell_tally.proofs.SetBits.{and-set}
-use Rattle.corner_signs.specs.Signs.{four}
-use Rattle.cell_tally.specs.Tally.{isSet}
-use Rattle.cell_tally.proofs.Tallies.{comes-plus, comes-set}
+use Rattle.walk.specs.Walk.{bit}
+use Rattle.corner_signs.specs.Signs.{four, facesAt}
+use Rattle.cell_tally.specs.declared.Corners.{Corners}
+use Rattle.cell_tally.specs.Tally.{isSet, inMask, setIn, ofSigns}
+use Rattle.cell_tally.proofs.Tallies.{Comes, comes-plus, comes-set}
 use lib.Bits.{bitAnd}
 use borrow.Author.Needs.{needs}
 use Rattle.cell_tally.proofs.faces_inside.Statement.{statement}
 use Rattle.cell_tally.proofs.faces_inside.Tie as tie
+
+-- over plain variables: among the records of the walk `simp` is dear
+face : {mask a : ℕ} (p q r s : ℕ) → a ≡ setIn (bitAnd (bitAnd (bitAnd p q) r) s) mask
+    → Comes mask (λ i. bit (four (isSet p i) (isSet q i) (isSet r i) (isSet s i))) a
+face p q r s e = comes-set (bitAnd (bitAnd (bitAnd p q) r) s) (λ i. four (isSet p i) (isSet q i) (isSet r i) (isSet s i)) e (λ i. simp and-set)
+
+faces : (k : Corners) (mask z₀ z₁ y₀ y₁ x₀ x₁ : ℕ)
+    → z₀ ≡ setIn (bitAnd (bitAnd (bitAnd (k .c0) (k .c1)) (k .c2)) (k .c3)) mask → z₁ ≡ setIn (bitAnd (bitAnd (bitAnd (k .c4) (k .c5)) (k .c6)) (k .c7)) mask
+    → y₀ ≡ setIn (bitAnd (bitAnd (bitAnd (k .c0) (k .c1)) (k .c4)) (k .c5)) mask → y₁ ≡ setIn (bitAnd (bitAnd (bitAnd (k .c2) (k .c3)) (k .c6)) (k .c7)) mask
+    → x₀ ≡ setIn (bitAnd (bitAnd (bitAnd (k .c0) (k .c3)) (k .c4)) (k .c7)) mask → x₁ ≡ setIn (bitAnd (bitAnd (bitAnd (k .c1) (k .c2)) (k .c5)) (k .c6)) mask
+    → z₀ + z₁ + (y₀ + y₁) + (x₀ + x₁) ≡ inMask mask (ofSigns facesAt k)
+faces k mask z₀ z₁ y₀ y₁ x₀ x₁ e₁ e₂ e₃ e₄ e₅ e₆ =
+    comes-plus
+    (comes-plus
+    (comes-plus (face (k .c0) (k .c1) (k .c2) (k .c3) e₁) (face (k .c4) (k .c5) (k .c6) (k .c7) e₂))
+    (comes-plus (face (k .c0) (k .c1) (k .c4) (k .c5) e₃) (face (k .c2) (k .c3) (k .c6) (k .c7) e₄)))
+    (comes-plus (face (k .c0) (k .c3) (k .c4) (k .c7) e₅) (face (k .c1) (k .c2) (k .c5) (k .c6) e₆))
+    .equal
 
 set-in-requires : tie.Need-set-in-requires
 set-in-requires c κs = search needs
@@ -17,7 +38,7 @@ set-in-requires-2 : tie.Need-set-in-requires-2
 set-in-requires-2 c κs = search needs
 
 add-z : tie.Need-add-z
-add-z c = search needs
+add-z c = omega (arith, c .before .before .before .before .set-in .ensures .1, c .set-in2 .ensures .1)
 
 set-in-requires-3 : tie.Need-set-in-requires-3
 set-in-requires-3 c κs = search needs
@@ -26,7 +47,7 @@ set-in-requires-4 : tie.Need-set-in-requires-4
 set-in-requires-4 c κs = search needs
 
 add-y : tie.Need-add-y
-add-y c = search needs
+add-y c = omega (arith, c .before .before .before .before .set-in3 .ensures .1, c .set-in4 .ensures .1)
 
 set-in-requires-5 : tie.Need-set-in-requires-5
 set-in-requires-5 c κs = search needs
@@ -35,42 +56,25 @@ set-in-requires-6 : tie.Need-set-in-requires-6
 set-in-requires-6 c κs = search needs
 
 add-x : tie.Need-add-x
-add-x c = search needs
+add-x c = omega (arith, c .before .before .before .before .set-in5 .ensures .1, c .set-in6 .ensures .1)
 
 add-result : tie.Need-add-result
-add-result c =
-    let s1 = c .before .before .before .before .before .before .before .before .before .before .before .before .before .before .before .before .before .before .before .before .set-in .ensures in
-    let s2 = c .before .before .before .before .before .before .before .before .before .before .before .before .before .before .before .before .set-in2 .ensures in
-    let s3 = c .before .before .before .before .before .before .before .before .before .before .before .before .set-in3 .ensures in
-    let s4 = c .before .before .before .before .before .before .before .before .set-in4 .ensures in
-    let s5 = c .before .before .before .before .set-in5 .ensures in
-    let s6 = c .set-in6 .ensures in
-    search needs
+add-result c = omega (arith, c .before .before .before .before .before .before .before .before .before .before .before .before .before .before .before .before .before .before .before .before .set-in .ensures .1, c .before .before .before .before .before .before .before .before .before .before .before .before .before .before .before .before .set-in2 .ensures .1, c .before .before .before .before .before .before .before .before .before .before .before .before .set-in3 .ensures .1, c .before .before .before .before .before .before .before .before .set-in4 .ensures .1)
 
 add-result-2 : tie.Need-add-result-2
-add-result-2 c =
-    let s1 = c .before .before .before .before .before .before .before .before .before .before .before .before .before .before .before .before .before .before .before .before .set-in .ensures in
-    let s2 = c .before .before .before .before .before .before .before .before .before .before .before .before .before .before .before .before .set-in2 .ensures in
-    let s3 = c .before .before .before .before .before .before .before .before .before .before .before .before .set-in3 .ensures in
-    let s4 = c .before .before .before .before .before .before .before .before .set-in4 .ensures in
-    let s5 = c .before .before .before .before .set-in5 .ensures in
-    let s6 = c .set-in6 .ensures in
-    search needs
+add-result-2 c = omega (arith, c .before .before .before .before .before .before .before .before .before .before .before .before .before .before .before .before .before .before .before .before .set-in .ensures .1, c .before .before .before .before .before .before .before .before .before .before .before .before .before .before .before .before .set-in2 .ensures .1, c .before .before .before .before .before .before .before .before .before .before .before .before .set-in3 .ensures .1, c .before .before .before .before .before .before .before .before .set-in4 .ensures .1, c .before .before .before .before .set-in5 .ensures .1, c .set-in6 .ensures .1)
 
 returns : tie.Need-returns
 returns c =
-    let s1 = c .before .before .before .before .before .before .before .before .before .before .before .before .before .before .before .before .before .before .before .before .set-in .ensures in
-    let s2 = c .before .before .before .before .before .before .before .before .before .before .before .before .before .before .before .before .set-in2 .ensures in
-    let s3 = c .before .before .before .before .before .before .before .before .before .before .before .before .set-in3 .ensures in
-    let s4 = c .before .before .before .before .before .before .before .before .set-in4 .ensures in
-    let s5 = c .before .before .before .before .set-in5 .ensures in
-    let s6 = c .set-in6 .ensures in
-    let k = c .before .before .before .before .before .before .before .before .before .before .before .before .before .before .before .before .before .before .before .before .before .before .before .before .args .c in (
-      comes-plus
-          (comes-plus (comes-plus (comes-set (bitAnd (bitAnd (bitAnd (k .c0) (k .c1)) (k .c2)) (k .c3)) (λ i. four (isSet (k .c0) i) (isSet (k .c1) i) (isSet (k .c2) i) (isSet (k .c3) i)) (s1 .0) (λ i. simp and-set)) (comes-set (bitAnd (bitAnd (bitAnd (k .c4) (k .c5)) (k .c6)) (k .c7)) (λ i. four (isSet (k .c4) i) (isSet (k .c5) i) (isSet (k .c6) i) (isSet (k .c7) i)) (s2 .0) (λ i. simp and-set))) (comes-plus (comes-set (bitAnd (bitAnd (bitAnd (k .c0) (k .c1)) (k .c4)) (k .c5)) (λ i. four (isSet (k .c0) i) (isSet (k .c1) i) (isSet (k .c4) i) (isSet (k .c5) i)) (s3 .0) (λ i. simp and-set)) (comes-set (bitAnd (bitAnd (bitAnd (k .c2) (k .c3)) (k .c6)) (k .c7)) (λ i. four (isSet (k .c2) i) (isSet (k .c3) i) (isSet (k .c6) i) (isSet (k .c7) i)) (s4 .0) (λ i. simp and-set))))
-          (comes-plus (comes-set (bitAnd (bitAnd (bitAnd (k .c0) (k .c3)) (k .c4)) (k .c7)) (λ i. four (isSet (k .c0) i) (isSet (k .c3) i) (isSet (k .c4) i) (isSet (k .c7) i)) (s5 .0) (λ i. simp and-set)) (comes-set (bitAnd (bitAnd (bitAnd (k .c1) (k .c2)) (k .c5)) (k .c6)) (λ i. four (isSet (k .c1) i) (isSet (k .c2) i) (isSet (k .c5) i) (isSet (k .c6) i)) (s6 .0) (λ i. simp and-set)))
-          .equal,
-      omega (arith, s1 .1, s2 .1, s3 .1, s4 .1, s5 .1, s6 .1),
+    let s1 = c .before .before .before .before .before .before .before .before .before .before .before .before .before .before .before .before .before .before .before .before .set-in in
+    let s2 = c .before .before .before .before .before .before .before .before .before .before .before .before .before .before .before .before .set-in2 in
+    let s3 = c .before .before .before .before .before .before .before .before .before .before .before .before .set-in3 in
+    let s4 = c .before .before .before .before .before .before .before .before .set-in4 in
+    let s5 = c .before .before .before .before .set-in5 in
+    let s6 = c .set-in6 in
+    let args = c .before .before .before .before .before .before .before .before .before .before .before .before .before .before .before .before .before .before .before .before .before .before .before .before .args in (
+      faces (args .c) (args .mask) (s1 .result) (s2 .result) (s3 .result) (s4 .result) (s5 .result) (s6 .result) (s1 .ensures .0) (s2 .ensures .0) (s3 .ensures .0) (s4 .ensures .0) (s5 .ensures .0) (s6 .ensures .0),
+      omega (arith, s1 .ensures .1, s2 .ensures .1, s3 .ensures .1, s4 .ensures .1, s5 .ensures .1, s6 .ensures .1),
     )
 
 pub faces-inside-spec : {M : Type 1} → statement M
