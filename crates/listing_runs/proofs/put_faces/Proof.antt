@@ -1,5 +1,5 @@
 -- `put_faces`: after i turns the lines of the first i threes are put.
-use mathlib.Core.Path.{_≡_, refl, sym, subst}
+use mathlib.Core.Path.{_≡_, refl, sym, subst, _∙_}
 use Prim.Native.Nat.{ℕ, _+_, _*_, _-_, _≤_}
 use native.Mathlib.Nat.{add-zero}
 use native.Mathlib.Omega.{arith}
@@ -28,7 +28,7 @@ mul-put-face-2 : tie.Need-mul-put-face-2 Inv-loop μ-loop
 mul-put-face-2 c = search needs
 
 shared-slice-read-put-face : tie.Need-shared-slice-read-put-face Inv-loop μ-loop
-shared-slice-read-put-face c = search needs
+shared-slice-read-put-face c = omega (arith, c .before .before .loop-test .taken, c .before .before .before .before .before .before .pre .0)
 
 mul-put-face-3 : tie.Need-mul-put-face-3 Inv-loop μ-loop
 mul-put-face-3 c = search needs
@@ -40,7 +40,7 @@ mul-put-face-4 : tie.Need-mul-put-face-4 Inv-loop μ-loop
 mul-put-face-4 c = search needs
 
 shared-slice-read-put-face-2 : tie.Need-shared-slice-read-put-face-2 Inv-loop μ-loop
-shared-slice-read-put-face-2 c = search needs
+shared-slice-read-put-face-2 c = omega (arith, c .before .before .before .loop-test .taken, c .before .before .before .before .before .before .before .pre .0)
 
 mul-put-face-5 : tie.Need-mul-put-face-5 Inv-loop μ-loop
 mul-put-face-5 c = search needs
@@ -52,32 +52,38 @@ mul-put-face-6 : tie.Need-mul-put-face-6 Inv-loop μ-loop
 mul-put-face-6 c = search needs
 
 shared-slice-read-put-face-3 : tie.Need-shared-slice-read-put-face-3 Inv-loop μ-loop
-shared-slice-read-put-face-3 c = search needs
+shared-slice-read-put-face-3 c = omega (arith, c .before .before .before .before .loop-test .taken, c .before .before .before .before .before .before .before .before .pre .0)
 
 put-face-requires : tie.Need-put-face-requires Inv-loop μ-loop
-put-face-requires c κs = search needs
+put-face-requires c κs =
+    let turn = c .before .before .before .before in
+    omega (arith, turn .loop-test .taken, turn .before .loop .inv .1, turn .before .loop .inv .2, turn .before .before .before .before .pre .1)
 
 add-i : tie.Need-add-i Inv-loop μ-loop
 add-i c = search needs
 
 loop-less : tie.Need-loop-less Inv-loop μ-loop
-loop-less c = search needs
+loop-less c = omega (arith, c .before .before .before .before .before .before .before .loop-test .taken)
 
 loop-again : tie.Need-loop-again Inv-loop μ-loop
 loop-again c =
     let put = c .before .before in
     let turn = put .before .before .before .before .before .before in
-    let run = turn .loop .inv .3 in
-    (search needs, search needs, search needs, put-line (faceLineAt (turn .before .before .before .args .indices .now)) (turn .loop .i) run (put .put-face .ensures .0))
+    let inv = turn .loop .inv in (
+      omega (arith, c .before .before .before .before .before .before .before .loop-test .taken),
+      c .before .text .given ∙ inv .1,
+      omega (arith, inv .2, put .put-face .ensures .1),
+      put-line (faceLineAt (turn .before .before .before .args .indices .now)) (turn .loop .i) (inv .3) (put .put-face .ensures .0),
+    )
 
 same-length : tie.Need-same-length Inv-loop μ-loop
-same-length c = search needs
+same-length c = c .before .loop .inv .1
 
 returns : tie.Need-returns Inv-loop μ-loop
 returns c =
     let turn = c .before in
     let start = turn .before .before .before in
-    let all : turn .loop .i ≡ start .args .count = search needs in (
+    let all : turn .loop .i ≡ start .args .count = omega (arith, turn .loop .inv .0, c .loop-test .left) in (
       subst (λ (k : ℕ). Put (start .args .text .now) (start .args .at) (linesOf k (faceLineAt (start .args .indices .now))) (turn .loop .text) (turn .loop .next)) all (turn .loop .inv .3),
       omega (arith, all, turn .loop .inv .2),
     )

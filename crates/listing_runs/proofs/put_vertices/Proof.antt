@@ -1,5 +1,5 @@
 -- `put_vertices`: after i turns the lines of the first i threes are put.
-use mathlib.Core.Path.{_≡_, refl, sym, subst}
+use mathlib.Core.Path.{_≡_, refl, sym, subst, _∙_}
 use Prim.Native.Nat.{ℕ, _+_, _*_, _-_, _≤_}
 use native.Mathlib.Nat.{add-zero}
 use native.Mathlib.Omega.{arith}
@@ -28,7 +28,7 @@ mul-put-vertex-2 : tie.Need-mul-put-vertex-2 Inv-loop μ-loop
 mul-put-vertex-2 c = search needs
 
 shared-slice-read-put-vertex : tie.Need-shared-slice-read-put-vertex Inv-loop μ-loop
-shared-slice-read-put-vertex c = search needs
+shared-slice-read-put-vertex c = omega (arith, c .before .before .loop-test .taken, c .before .before .before .before .before .before .pre .0)
 
 mul-put-vertex-3 : tie.Need-mul-put-vertex-3 Inv-loop μ-loop
 mul-put-vertex-3 c = search needs
@@ -40,7 +40,7 @@ mul-put-vertex-4 : tie.Need-mul-put-vertex-4 Inv-loop μ-loop
 mul-put-vertex-4 c = search needs
 
 shared-slice-read-put-vertex-2 : tie.Need-shared-slice-read-put-vertex-2 Inv-loop μ-loop
-shared-slice-read-put-vertex-2 c = search needs
+shared-slice-read-put-vertex-2 c = omega (arith, c .before .before .before .loop-test .taken, c .before .before .before .before .before .before .before .pre .0)
 
 mul-put-vertex-5 : tie.Need-mul-put-vertex-5 Inv-loop μ-loop
 mul-put-vertex-5 c = search needs
@@ -52,32 +52,38 @@ mul-put-vertex-6 : tie.Need-mul-put-vertex-6 Inv-loop μ-loop
 mul-put-vertex-6 c = search needs
 
 shared-slice-read-put-vertex-3 : tie.Need-shared-slice-read-put-vertex-3 Inv-loop μ-loop
-shared-slice-read-put-vertex-3 c = search needs
+shared-slice-read-put-vertex-3 c = omega (arith, c .before .before .before .before .loop-test .taken, c .before .before .before .before .before .before .before .before .pre .0)
 
 put-vertex-requires : tie.Need-put-vertex-requires Inv-loop μ-loop
-put-vertex-requires c κs = search needs
+put-vertex-requires c κs =
+    let turn = c .before .before .before .before in
+    omega (arith, turn .loop-test .taken, turn .before .loop .inv .1, turn .before .loop .inv .2, turn .before .before .before .before .pre .1)
 
 add-i : tie.Need-add-i Inv-loop μ-loop
 add-i c = search needs
 
 loop-less : tie.Need-loop-less Inv-loop μ-loop
-loop-less c = search needs
+loop-less c = omega (arith, c .before .before .before .before .before .before .before .loop-test .taken)
 
 loop-again : tie.Need-loop-again Inv-loop μ-loop
 loop-again c =
     let put = c .before .before in
     let turn = put .before .before .before .before .before .before in
-    let run = turn .loop .inv .3 in
-    (search needs, search needs, search needs, put-line (vertexLineAt (turn .before .before .before .args .vertices .now)) (turn .loop .i) run (put .put-vertex .ensures .0))
+    let inv = turn .loop .inv in (
+      omega (arith, c .before .before .before .before .before .before .before .loop-test .taken),
+      c .before .text .given ∙ inv .1,
+      omega (arith, inv .2, put .put-vertex .ensures .1),
+      put-line (vertexLineAt (turn .before .before .before .args .vertices .now)) (turn .loop .i) (inv .3) (put .put-vertex .ensures .0),
+    )
 
 same-length : tie.Need-same-length Inv-loop μ-loop
-same-length c = search needs
+same-length c = c .before .loop .inv .1
 
 returns : tie.Need-returns Inv-loop μ-loop
 returns c =
     let turn = c .before in
     let start = turn .before .before .before in
-    let all : turn .loop .i ≡ start .args .count = search needs in
+    let all : turn .loop .i ≡ start .args .count = omega (arith, turn .loop .inv .0, c .loop-test .left) in
     ((subst (λ (k : ℕ). Put (start .args .text .now) (start .args .at) (linesOf k (vertexLineAt (start .args .vertices .now))) (turn .loop .text) (turn .loop .next)) all (turn .loop .inv .3)), omega (arith, all, turn .loop .inv .2))
 
 pub put-vertices-spec : {M : Type 1} → statement M
