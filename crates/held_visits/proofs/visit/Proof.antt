@@ -31,7 +31,7 @@ returns c =
     let start = at-if .before .before .before .before .before .before in
     let args = start .args in (
       visit-named (args .n) (args .samples .now) (args .x) (args .y) (args .z) (args .edge) (args .layer) (args .row) (args .work .now) (args .current .now) (args .vertices .now)
-          (args .indices .now) (args .counts) (getD (args .current .now) (args .edge) 0) _ refl (at-if .if1 .taken) (named .put-index .ensures),
+          (args .indices .now) (args .counts) (getD (args .current .now) (args .edge) 0) _ refl (omega (arith, at-if .if1 .taken)) (named .put-index .ensures),
       (refl, le-add-right (args .counts .made) 1),
     )
 
@@ -66,7 +66,7 @@ returns-2 c =
     let start = at-if .before .before .before .before .before .before in
     let args = start .args in (
       visit-made (args .n) (args .samples .now) (args .x) (args .y) (args .z) (args .edge) (args .layer) (args .row) (args .work .now) (args .current .now) (args .vertices .now)
-          (args .indices .now) (args .counts) (getD (args .current .now) (args .edge) 0) _ _ _ _ refl (at-if .if1 .left) (made .make-edge .ensures)
+          (args .indices .now) (args .counts) (getD (args .current .now) (args .edge) 0) _ _ _ _ refl (omega (arith, at-if .if1 .left)) (made .make-edge .ensures)
           (indexed .put-index2 .ensures),
       (refl, le-refl (args .counts .made + 1)),
     )
