@@ -1,6 +1,6 @@
 -- `count_grid`: layer after layer, from nothing counted.
 use mathlib.Core.Path.{_≡_, refl, sym, ap, _∙_}
-use Prim.Native.Nat.{ℕ, _+_, _-_, _*_, _%_, _≤_}
+use Prim.Native.Nat.{ℕ, _+_, _-_, _*_, _%_, _≤_, zero-le}
 use native.Mathlib.Nat.{zero-mul}
 use native.Mathlib.Omega.{arith}
 use lib.ListN.{length}
@@ -48,20 +48,20 @@ firsts-requires c κs = search needs
 fill-layer-requires : tie.Need-fill-layer-requires Inv-loop μ-loop
 fill-layer-requires c κs =
     let pre = c .before .before .before .before .before .before .before .pre in
-    (pre .0, pre .1, planes-le _ 1 _ (omega arith) (pre .2))
+    (pre .0, pre .1, planes-le (c .before .before .before .before .before .before .before .args .n) 1 _ (omega (arith, pre .0)) (pre .2))
 
 loop-holds : tie.Need-loop-holds Inv-loop μ-loop
 unfolding times
 loop-holds c =
-    (reached-none _ _ _ 243840 (omega arith), omega arith, ap (λ (k : ℕ). (k + 0) % 2) (sym (zero-mul _)), c .fill-layer .ensures, refl, span-none _ refl)
+    (reached-none countIn _ _ 243840 zero-le, zero-le, ap (λ (k : ℕ). (k + 0) % 2) (sym (zero-mul _)), c .fill-layer .ensures, refl, span-none _ refl)
 
 add-fill-layer : tie.Need-add-fill-layer Inv-loop μ-loop
-add-fill-layer c = let most = c .before .before .before .before .before .before .before .before .before .before .pre .1 in omega arith
+add-fill-layer c = omega (arith, c .loop-test .taken, c .before .before .before .before .before .before .before .before .before .before .pre .1)
 
 fill-layer-requires-2 : tie.Need-fill-layer-requires-2 Inv-loop μ-loop
 fill-layer-requires-2 c κs =
     let pre = c .before .before .before .before .before .before .before .before .before .before .before .pre in
-    (pre .0, pre .1, planes-le _ _ _ (omega arith) (pre .2))
+    (pre .0, pre .1, planes-le (c .before .before .before .before .before .before .before .before .before .before .before .args .n) _ _ (omega (arith, c .before .loop-test .taken)) (pre .2))
 
 count-layer-requires : tie.Need-count-layer-requires Inv-loop μ-loop
 count-layer-requires c κs =
@@ -77,22 +77,22 @@ count-layer-requires c κs =
       (record { news-are = tables .before .before .before .new-words .ensures; names-are = tables .before .before .name-words .ensures }, tables .before .masks .ensures, tables .firsts .ensures),
       (
         (pre .0, most, at .2),
-        ((at .3, filled .fill-layer2 .ensures), record { enough = omega arith; ordered = at .0 .ordered; fits = omega arith }),
+        ((at .3, filled .fill-layer2 .ensures), record { enough = omega (arith, room, same); ordered = at .0 .ordered; fits = omega (arith, most, grown, filled .before .before .loop-test .taken) }),
       ),
     )
 
 span-after-requires : tie.Need-span-after-requires Inv-loop μ-loop
-span-after-requires c κs = let most = c .before .before .before .before .before .before .before .before .before .before .before .before .before .before .before .before .before .before .before .before .before .before .pre .1 in omega arith
+span-after-requires c κs = let turn = c .before .before .before .before .before .before .before .before .before .before .before .before in omega (arith, turn .loop-test .taken, turn .before .before .before .before .before .before .before .before .before .before .pre .1)
 
 sub-row : tie.Need-sub-row Inv-loop μ-loop
-sub-row c = let least = c .before .before .before .before .before .before .before .before .before .before .before .before .before .before .before .before .before .before .before .before .before .before .before .pre .0 in omega arith
+sub-row c = omega (arith, c .before .before .before .before .before .before .before .before .before .before .before .before .before .before .before .before .before .before .before .before .before .before .before .pre .0)
 
 add-row : tie.Need-add-row Inv-loop μ-loop
 add-row c =
     let at-loop = c .before .before .before .before .before .before .before .before .before .before .before .before .before .before in
     let most = at-loop .before .before .before .before .before .before .before .before .before .pre .1 in
     let row = at-loop .loop .inv .2 in
-    omega arith
+    omega (arith, most, row)
 
 end-layer-requires : tie.Need-end-layer-requires Inv-loop μ-loop
 end-layer-requires c κs =
@@ -100,13 +100,13 @@ end-layer-requires c κs =
     let pre = at-loop .before .before .before .before .before .before .before .before .before .pre in
     let room = pre .3 in
     let same = at-loop .loop .inv .4 in
-    (pre .1, parity-le _, omega arith)
+    (pre .1, parity-le _, omega (arith, room, same, c .before .before .before .work .given))
 
 add-z : tie.Need-add-z Inv-loop μ-loop
-add-z c = let most = c .before .before .before .before .before .before .before .before .before .before .before .before .before .before .before .before .before .before .before .before .before .before .before .before .before .before .before .pre .1 in omega arith
+add-z c = let turn = c .before .before .before .before .before .before .before .before .before .before .before .before .before .before .before .before .before in omega (arith, turn .loop-test .taken, turn .before .before .before .before .before .before .before .before .before .before .pre .1)
 
 loop-less : tie.Need-loop-less Inv-loop μ-loop
-loop-less c = omega arith
+loop-less c = omega (arith, c .before .before .before .before .before .before .before .before .before .before .before .before .before .before .before .before .before .loop-test .taken)
 
 loop-again : tie.Need-loop-again Inv-loop μ-loop
 loop-again c =
@@ -120,10 +120,10 @@ loop-again c =
     let args = turn .before .before .before .before .before .before .before .before .before .args in
     let here = held (loop .work) (loop .reached) in
     let parity = parity-layer (args .n) (loop .z) (loop .row) (at .2) in
-    let done = layer-done (args .numbering) (args .n) (insideOf (args .n) (args .samples .now)) (loop .z) _ _ _ _ here parity (called .count-layer .ensures .0) (ended .end-layer .ensures) in
+    let done = layer-done (args .numbering) (args .n) (insideOf (args .n) (args .samples .now)) (loop .z) _ _ _ (called .count-layer .result) here parity (called .count-layer .ensures .0) (ended .end-layer .ensures) in
     let next = reached-next countIn _ _ 243840 (loop .z) here _ (at .0) done (called .count-layer .ensures .1 .0) (called .count-layer .ensures .1 .1) in (
       next,
-      omega arith,
+      omega (arith, filled .before .before .loop-test .taken),
       parity,
       filled .fill-layer2 .ensures,
       c .before .work2 .given ∙ ended .before .before .before .before .work .given ∙ at .4,
@@ -140,8 +140,8 @@ returns c =
     let most = start .pre .1 in
     let at = c .before .loop .inv .0 in
     let grown = at .grown in
-    let all : c .before .loop .z ≡ start .args .n = omega arith in
-    (reached-all _ _ _ _ _ _ _ all at, (rw all at (c .before .loop .inv .5), (omega arith, at .ordered)))
+    let all : c .before .loop .z ≡ start .args .n = omega (arith, c .loop-test .left, c .before .loop .inv .1) in
+    (reached-all countIn _ _ (c .before .loop .z) (start .args .n) _ _ all at, (rw all at (c .before .loop .inv .5), (omega (arith, grown, most, all), at .ordered)))
 
 pub count-grid-spec : {M : Type 1} → statement M
 count-grid-spec =

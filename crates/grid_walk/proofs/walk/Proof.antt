@@ -45,10 +45,10 @@ fill-layer-requires c κs =
     let pre = c .before .before .before .before .before .before .before .before .before .pre in
     let ordered = pre .1 .0 .ordered in
     let most = pre .1 .0 .most in
-    (pre .0 .0, pre .0 .1, planes-le _ _ _ (omega arith) (pre .0 .2))
+    (pre .0 .0, pre .0 .1, planes-le (c .before .before .before .before .before .before .before .before .before .args .n) _ _ (omega (arith, ordered, most)) (pre .0 .2))
 
 sub-row : tie.Need-sub-row Inv-loop μ-loop
-sub-row c = let least = c .before .before .before .before .before .before .before .before .before .before .pre .0 .0 in omega arith
+sub-row c = omega (arith, c .before .before .before .before .before .before .before .before .before .before .pre .0 .0)
 
 mul-row : tie.Need-mul-row Inv-loop μ-loop
 mul-row c =
@@ -56,7 +56,7 @@ mul-row c =
     let pre = start .pre in
     let ordered = pre .1 .0 .ordered in
     let last = pre .1 .0 .most in
-    let within : start .args .span .first ≤ start .args .n = omega arith in
+    let within : start .args .span .first ≤ start .args .n = omega (arith, ordered, last) in
     omega (arith, swaps-le (start .args .n) (start .args .span .first) (pre .0 .1) within)
 
 loop-holds : tie.Need-loop-holds Inv-loop μ-loop
@@ -76,13 +76,13 @@ add-fill-layer c =
     let pre = c .before .before .before .before .before .before .before .before .before .before .before .before .before .before .pre in
     let most = pre .0 .1 in
     let last = pre .1 .0 .most in
-    omega arith
+    omega (arith, most, last, c .if1 .taken)
 
 fill-layer-requires-2 : tie.Need-fill-layer-requires-2 Inv-loop μ-loop
 fill-layer-requires-2 c κs =
     let pre = c .before .before .before .before .before .before .before .before .before .before .before .before .before .before .before .pre in
     let most = pre .1 .0 .most in
-    (pre .0 .0, pre .0 .1, planes-le _ _ _ (omega arith) (pre .0 .2))
+    (pre .0 .0, pre .0 .1, planes-le (c .before .before .before .before .before .before .before .before .before .before .before .before .before .before .before .args .n) _ _ (omega (arith, most, c .before .if1 .taken)) (pre .0 .2))
 
 layer-cells-requires : tie.Need-layer-cells-requires Inv-loop μ-loop
 layer-cells-requires c κs =
@@ -106,14 +106,14 @@ layer-cells-requires c κs =
     )
 
 sub-row-2 : tie.Need-sub-row-2 Inv-loop μ-loop
-sub-row-2 c = let least = c .before .before .before .before .before .before .before .before .before .before .before .before .before .before .before .before .before .before .before .before .before .before .before .before .before .before .before .before .before .before .before .before .pre .0 .0 in omega arith
+sub-row-2 c = omega (arith, c .before .before .before .before .before .before .before .before .before .before .before .before .before .before .before .before .before .before .before .before .before .before .before .before .before .before .before .before .before .before .before .before .pre .0 .0)
 
 add-row : tie.Need-add-row Inv-loop μ-loop
 add-row c =
     let turn = c .before .before .before .before .before .before .before .before .before .before .before .before .before .before .before .before .before .before .before .before in
     let most = turn .before .before .before .before .before .before .before .before .before .before .before .before .pre .0 .1 in
     let row = turn .loop .inv .2 in
-    omega arith
+    omega (arith, most, row)
 
 end-layer-requires : tie.Need-end-layer-requires Inv-loop μ-loop
 end-layer-requires c κs =
@@ -121,17 +121,17 @@ end-layer-requires c κs =
     let pre = turn .before .before .before .before .before .before .before .before .before .before .before .before .pre .0 in
     let room = pre .3 in
     let same = turn .loop .inv .4 in
-    (pre .1, parity-le _, omega arith)
+    (pre .1, parity-le _, omega (arith, room, same, c .before .before .before .before .before .before .work .given))
 
 add-z : tie.Need-add-z Inv-loop μ-loop
 add-z c =
     let pre = c .before .before .before .before .before .before .before .before .before .before .before .before .before .before .before .before .before .before .before .before .before .before .before .before .before .before .before .before .before .before .before .before .before .before .before .before .pre in
     let most = pre .0 .1 in
     let last = pre .1 .0 .most in
-    omega arith
+    omega (arith, most, last, c .before .before .before .before .before .before .before .before .before .before .before .before .before .before .before .before .before .before .before .before .before .before .if1 .taken)
 
 loop-less : tie.Need-loop-less Inv-loop μ-loop
-loop-less c = omega arith
+loop-less c = omega (arith, c .before .before .before .before .before .before .before .before .before .before .before .before .before .before .before .before .before .before .before .before .before .before .if1 .taken)
 
 loop-again : tie.Need-loop-again Inv-loop μ-loop
 loop-again c =
@@ -155,13 +155,13 @@ loop-again c =
     )
 
 same-length : tie.Need-same-length Inv-loop μ-loop
-same-length c = search needs
+same-length c = c .before .before .loop .inv .4
 
 same-length-2 : tie.Need-same-length-2 Inv-loop μ-loop
-same-length-2 c = search needs
+same-length-2 c = c .before .before .loop .inv .5
 
 same-length-3 : tie.Need-same-length-3 Inv-loop μ-loop
-same-length-3 c = search needs
+same-length-3 c = c .before .before .loop .inv .6
 
 returns : tie.Need-returns Inv-loop μ-loop
 unfolding walkSteps
@@ -171,8 +171,8 @@ returns c =
     let last = start .pre .1 .0 .most in
     let at = c .before .before .loop .inv .0 in
     let grown = at .grown in
-    let all : c .before .before .loop .z ≡ start .args .span .last = omega arith in
-    (reached-all _ _ _ _ _ _ _ all at, (omega arith, at .ordered))
+    let all : c .before .before .loop .z ≡ start .args .span .last = omega (arith, c .if1 .left, c .before .before .loop .inv .1) in
+    (reached-all handCount _ _ (c .before .before .loop .z) (start .args .span .last) _ _ all at, (omega (arith, grown, most, last, all), at .ordered))
 
 pub walk-spec : {M : Type 1} → statement M
 walk-spec =

@@ -17,7 +17,8 @@ grown : (c : tie.After-first-made)
 grown c =
     let new = c .before .before .before .before .before .before .before .before .before .before .before in
     let start = new .before .before .before .before .before .before .before .before .before .before .before in
-    counts-grown (start .args .names .now) (start .args .work .now) _ _ _ _ _ _ _ (start .args .counts .written) (start .pre .0 .0) (start .pre .0 .1) (new .before .before .named-set .ensures)
+    let args = start .args in
+    counts-grown (args .names .now) (args .work .now) (args .case) (new .before .before .before .before .before .before .set-at .result) (new .before .before .before .set-at2 .result) (new .before .before .named-set .result) (new .before .held-set .result) (new .new-set .result) (c .first-made .result) (start .args .counts .written) (start .pre .0 .0) (start .pre .0 .1) (new .before .before .named-set .ensures)
     (new .before .held-set .ensures) (new .new-set .ensures) (c .first-made .ensures)
 
 mul-word : tie.Need-mul-word
@@ -27,16 +28,24 @@ element-copy-out-word : tie.Need-element-copy-out-word
 element-copy-out-word c = search needs
 
 layer-word-requires : tie.Need-layer-word-requires
-layer-word-requires c κs = search needs
+layer-word-requires c κs =
+    let pre = c .before .before .before .pre in
+    (pre .1 .0 .most, pre .1 .1 .0 .0, pre .1 .1 .0 .1, pre .1 .0 .layer-le)
 
 set-at-requires : tie.Need-set-at-requires
-set-at-requires c κs = search needs
+set-at-requires c κs =
+    let word = c .layer-word .ensures in
+    (omega (arith, word .1, c .before .before .before .before .pre .1 .0 .room), word .2)
 
 row-word-requires : tie.Need-row-word-requires
-row-word-requires c κs = search needs
+row-word-requires c κs =
+    let pre = c .before .before .before .before .before .before .pre in
+    (pre .1 .0 .most, pre .1 .1 .0 .0, pre .1 .0 .row-le)
 
 set-at-requires-2 : tie.Need-set-at-requires-2
-set-at-requires-2 c κs = search needs
+set-at-requires-2 c κs =
+    let word = c .row-word .ensures in
+    (omega (arith, word .1, c .before .before .before .before .before .before .before .pre .1 .0 .room), word .2)
 
 named-set-requires : tie.Need-named-set-requires
 named-set-requires c κs = search needs
@@ -48,22 +57,30 @@ new-set-requires : tie.Need-new-set-requires
 new-set-requires c κs = search needs
 
 sub-layer-word : tie.Need-sub-layer-word
-sub-layer-word c = search needs
+sub-layer-word c = c .before .before .before .before .before .before .before .before .before .before .before .before .pre .1 .0 .layer-le
 
 layer-word-requires-2 : tie.Need-layer-word-requires-2
-layer-word-requires-2 c κs = search needs
+layer-word-requires-2 c κs =
+    let pre = c .before .before .before .before .before .before .before .before .before .before .before .before .pre in
+    (pre .1 .0 .most, pre .1 .1 .0 .0, pre .1 .1 .0 .1, omega (arith, pre .1 .0 .layer-le))
 
 put-set-requires : tie.Need-put-set-requires
-put-set-requires c κs = search needs
+put-set-requires c κs =
+    let word = c .layer-word2 .ensures in
+    (omega (arith, word .1, c .before .before .before .before .before .before .before .before .before .before .before .before .before .pre .1 .0 .room), word .2)
 
 sub-row-word : tie.Need-sub-row-word
-sub-row-word c = search needs
+sub-row-word c = c .before .before .before .before .before .before .before .before .before .before .before .before .before .before .before .before .before .pre .1 .0 .row-le
 
 row-word-requires-2 : tie.Need-row-word-requires-2
-row-word-requires-2 c κs = search needs
+row-word-requires-2 c κs =
+    let pre = c .before .before .before .before .before .before .before .before .before .before .before .before .before .before .before .before .before .pre in
+    (pre .1 .0 .most, pre .1 .1 .0 .0, omega (arith, pre .1 .0 .row-le))
 
 put-set-requires-2 : tie.Need-put-set-requires-2
-put-set-requires-2 c κs = search needs
+put-set-requires-2 c κs =
+    let word = c .row-word2 .ensures in
+    (omega (arith, word .1, c .before .before .before .work .given, c .before .before .before .before .before .before .before .before .before .before .before .before .before .before .before .before .before .before .pre .1 .0 .room), word .2)
 
 first-made-requires : tie.Need-first-made-requires
 first-made-requires c κs = search needs
@@ -72,13 +89,13 @@ add-t23 : tie.Need-add-t23
 add-t23 c =
     let g = grown (c .before) in
     let start = c .before .before .before .before .before .before .before .before .before .before .before .before .before .before .before .before .before .before .before .before .before .before .before in
-    omega (arith, start .pre .1 .1 .1 .0, start .pre .1 .1 .1 .1)
+    omega (arith, g, start .pre .1 .1 .1 .0, start .pre .1 .1 .1 .1)
 
 add-t30 : tie.Need-add-t30
 add-t30 c =
     let g = grown (c .before) in
     let start = c .before .before .before .before .before .before .before .before .before .before .before .before .before .before .before .before .before .before .before .before .before .before .before in
-    omega (arith, start .pre .1 .1 .1 .0, start .pre .1 .1 .1 .1)
+    omega (arith, g, start .pre .1 .1 .1 .0, start .pre .1 .1 .1 .1)
 
 add-t33 : tie.Need-add-t33
 add-t33 c =
@@ -98,9 +115,12 @@ returns c =
     let layer-read = row-read .before .before .before in
     let first = layer-read .before .before .before .before .before in
     let pre = first .pre in
+    let args = first .args in
     let g = grown done in (
-      cell-done (first .args .names .now) (first .args .work .now) _ _ _ _ _ _ _ (first .args .counts .written) (pre .0 .0) (pre .0 .1) (new .before .before .named-set .ensures) (new .before .held-set .ensures) (new .new-set .ensures) (done .first-made .ensures)
-          _ _ _ _ _ _ _ _ _ _ _ _ (layer-read .before .layer-word .ensures .0) (layer-read .set-at .ensures) (row-read .before .row-word .ensures .0) (row-read .set-at2 .ensures)
+      cell-done (args .names .now) (args .work .now) (args .case) (layer-read .set-at .result) (row-read .set-at2 .result) (new .before .before .named-set .result) (new .before .held-set .result)
+          (new .new-set .result) (done .first-made .result) (args .counts .written) (pre .0 .0) (pre .0 .1) (new .before .before .named-set .ensures) (new .before .held-set .ensures) (new .new-set .ensures) (done .first-made .ensures)
+          (args .n) (args .layer) (args .row) (args .x) (args .y) (args .counts .made) (layer-read .before .layer-word .result) (row-read .before .row-word .result)
+          (layer-put .before .layer-word2 .result) (row-put .before .row-word2 .result) _ _ (layer-read .before .layer-word .ensures .0) (layer-read .set-at .ensures) (row-read .before .row-word .ensures .0) (row-read .set-at2 .ensures)
           (layer-put .before .layer-word2 .ensures .0) (layer-put .put-set .ensures) (row-put .before .row-word2 .ensures .0) (row-put .put-set2 .ensures),
       (omega (arith, g, pre .1 .1 .1 .0), omega (arith, g, pre .1 .1 .1 .0)),
     )

@@ -3,7 +3,6 @@ use mathlib.Core.Path.{_≡_, refl, _∙_}
 use Prim.Native.Nat.{_+_, _≤_}
 use native.Mathlib.Omega.{arith}
 use lib.ListN.{length}
-use borrow.Author.Needs.{needs}
 use Rattle.packed_tables.specs.Unpacked.{unpacked, Edges}
 use Rattle.lent_mesh.specs.Stored.{inHand}
 use Rattle.held_visits.specs.CellMemory.{inCell}
@@ -27,25 +26,28 @@ abbrev μ-loop : tie.MeasureT-loop
 loop-holds : tie.Need-loop-holds Inv-loop μ-loop
 loop-holds c =
     let start = c .before .before .before .before in
-    (omega arith, refl, refl, refl, refl, start .pre .1 .1 .0 .1, refl)
+    (start .pre .1 .1 .1 .0, refl, refl, refl, refl, start .pre .1 .1 .0 .1, refl)
 
 visit-requires : tie.Need-visit-requires Inv-loop μ-loop
 visit-requires c κs =
     let turn = c .before .before .before .before .before in
     let start = turn .before .before .before .before .before in
-    let room = start .pre .1 .0 in (
+    let room = start .pre .1 .0 in
+    let taken = c .before .before .before .before .loop-test .taken in
+    let inv = turn .loop .inv in
+    let fits = start .pre .1 .1 .1 .1 in (
       start .pre .0,
       (
-        record { most = room .most; layer-le = room .layer-le; row-le = room .row-le; room = omega arith },
-        ((edges-first _ _ (omega arith) (turn .loop .inv .5), start .pre .1 .1 .0 .0), (omega arith, omega arith)),
+        record { most = room .most; layer-le = room .layer-le; row-le = room .row-le; room = omega (arith, room .room, inv .2) },
+        ((edges-first (turn .loop .left) (turn .loop .rest) taken (inv .5), start .pre .1 .1 .0 .0), (omega (arith, taken, inv .0, inv .1, fits), omega (arith, taken, inv .1, fits))),
       ),
     )
 
 sub-left : tie.Need-sub-left Inv-loop μ-loop
-sub-left c = search needs
+sub-left c = omega (arith, c .before .before .before .before .before .before .before .before .before .before .before .loop-test .taken)
 
 loop-less : tie.Need-loop-less Inv-loop μ-loop
-loop-less c = search needs
+loop-less c = omega (arith, c .before .before .before .before .before .before .before .before .before .before .before .loop-test .taken)
 
 loop-again : tie.Need-loop-again Inv-loop μ-loop
 loop-again c =
@@ -69,18 +71,24 @@ loop-again c =
     )
 
 same-length : tie.Need-same-length Inv-loop μ-loop
-same-length c = search needs
+same-length c = c .before .loop .inv .2
 
 same-length-2 : tie.Need-same-length-2 Inv-loop μ-loop
-same-length-2 c = search needs
+same-length-2 c = c .before .loop .inv .3
 
 same-length-3 : tie.Need-same-length-3 Inv-loop μ-loop
-same-length-3 c = search needs
+same-length-3 c = c .before .loop .inv .4
 
 returns : tie.Need-returns Inv-loop μ-loop
 returns c =
-    let end = c .before in
-    (all-taken _ _ _ _ _ (end .loop .left) (end .loop .rest) _ _ _ _ (omega arith) (end .loop .inv .6), (omega arith, end .loop .inv .0))
+    let end = c .before .loop in
+    let args = c .before .before .before .before .before .before .args in
+    let none = c .loop-test .left in (
+      all-taken (args .n) (args .samples .now) (args .x) (args .y) (args .z) (end .left) (end .rest)
+          (inHand (inCell (end .work) (args .layer) (args .row) (end .current)) (end .vertices) (end .indices) (end .reached)) (args .count) (args .edges)
+          (inHand (inCell (args .work .now) (args .layer) (args .row) (args .current .now)) (args .vertices .now) (args .indices .now) (args .counts)) none (end .inv .6),
+      (omega (arith, none, end .inv .1), end .inv .0),
+    )
 
 pub visit-all-spec : {M : Type 1} → statement M
 visit-all-spec =

@@ -3,9 +3,10 @@ use mathlib.Core.Path.{_≡_, refl}
 use Prim.Native.Nat.{ℕ, _+_, _*_, _<_}
 use native.Mathlib.Nat.{le-refl, add-le-add, lt-of-le-of-lt}
 use native.Mathlib.Omega.{arith}
-use lib.ListN.{getD}
+use lib.ListN.{length, getD}
 use borrow.Author.Needs.{needs}
-use Rattle.lent_mesh.specs.Stored.{storeAt}
+use Rattle.lent_mesh.specs.Grid.{insideOf}
+use Rattle.lent_mesh.specs.Stored.{storeAt, inHand}
 use Rattle.lent_mesh.proofs.Places.{row-small}
 use Rattle.joined_slots.specs.OneCell.{SlotsFrom}
 use Rattle.joined_slots.proofs.TwelveSlots.{slots-from, slot-in-work}
@@ -22,7 +23,7 @@ class-small c = class-lt (c .args .x) (c .args .y) (c .args .z) _ (c .pre .1 .1 
 held : (c : tie.Start)
     → (let args = c .args in
     Words (args .class) (args .case) (getD (args .rows .now) (args .case) 0) (getD (args .news .now) (256 * args .class + args .case) 0))
-held c = words _ _ _ (c .args .rows .now) (c .args .news .now) (class-small c) (case-small c) (c .pre .1 .0 .0) (c .pre .1 .0 .1) refl
+held c = words (c .args .class) (c .args .case) (getD (c .args .news .now) (256 * c .args .class + c .args .case) 0) (c .args .rows .now) (c .args .news .now) (class-small c) (case-small c) (c .pre .1 .0 .0) (c .pre .1 .0 .1) refl
 
 cell-slots : (c : tie.Start) (at : ℕ) → at ≡ 8 * (c .args .y * c .args .n + c .args .x)
     → SlotsFrom at (c .args .slots .now) (c .args .n) (c .args .x) (c .args .y) (c .args .z)
@@ -33,7 +34,7 @@ at-small c =
     let cell = c .pre .0 in
     let in-x = cell .in-x in
     let in-y = cell .in-y in
-    row-small (c .args .n) (c .args .x) (c .args .y) (cell .most) (omega arith) (omega arith)
+    row-small (c .args .n) (c .args .x) (c .args .y) (cell .most) (omega (arith, in-x)) (omega (arith, in-y))
 
 mul-row : tie.Need-mul-row
 mul-row c = let start = c .before .before .before .before in let case-lt = case-small start in search needs
@@ -74,20 +75,20 @@ name-all-requires c κs =
       (w .row-known, w .row-most),
       (
         λ e he.
-            slot-in-work _ (args .n) (args .x) (args .y) (args .z) e _ _ (args .slots .now) (cell-slots start _ refl) (cell .in-x) (cell .in-y)
+            slot-in-work _ (args .n) (args .x) (args .y) (args .z) e (length (args .work .now)) _ (args .slots .now) (cell-slots start _ refl) (cell .in-x) (cell .in-y)
             (pre .1 .1 .1 .0) (back .work .given) he,
         omega (arith, made .make-new .ensures .1 .1, pre .1 .1 .1 .2),
       ),
     )
 
 same-length : tie.Need-same-length
-same-length c = search needs
+same-length c = c .before .before .before .before .before .before .before .before .work .given
 
 same-length-2 : tie.Need-same-length-2
-same-length-2 c = search needs
+same-length-2 c = c .before .before .before .before .before .before .vertices .given
 
 same-length-3 : tie.Need-same-length-3
-same-length-3 c = search needs
+same-length-3 c = c .before .indices .given
 
 returns : tie.Need-returns
 returns c =
@@ -97,11 +98,14 @@ returns c =
     let args = start .args in
     let pre = start .pre in
     let w = held start in
+    let row = getD (args .rows .now) (args .case) 0 in
+    let fresh = getD (args .news .now) (256 * args .class + args .case) 0 in
     let store = storeAt (args .n) (args .samples .now) in (
-      cell-passes _ (args .x) (args .y) (args .z) _ _ _ _ (pre .1 .1 .0 .0) (pre .1 .1 .0 .1) w store (args .n) _ _ _
+      cell-passes (insideOf (args .n) (args .samples .now)) (args .x) (args .y) (args .z) (args .class) (args .case) row fresh (pre .1 .1 .0 .0) (pre .1 .1 .0 .1) w store (args .n) (inHand (args .work .now) (args .vertices .now) (args .indices .now) (args .counts)) _ _
           (made .make-new .ensures .0 (args .indices .now))
           (named .name-all .ensures .0 (args .n) (args .x) (args .y) (args .z) store _ (cell-slots start _ refl)),
-      counts-grown _ _ _ _ _ _ _ _ _ _ w (pre .1 .1 .1 .1)
+      counts-grown (args .class) (args .case) row fresh (args .counts .made) (args .counts .written) (made .make-new .result .made) (made .make-new .result .written)
+          (named .name-all .result .made) (named .name-all .result .written) w (pre .1 .1 .1 .1)
           (made .make-new .ensures .1 .0) (made .make-new .ensures .1 .1) (named .name-all .ensures .1 .0) (named .name-all .ensures .1 .1),
     )
 

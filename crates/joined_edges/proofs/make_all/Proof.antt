@@ -42,7 +42,7 @@ place-lt c =
     let start = c .before .before .before .before .before in
     let args = start .args in
     let cell = start .pre .0 in
-    slot-in-work (args .at) (args .n) (args .x) (args .y) (args .z) (c .before .loop .rest % 16) _ _ (args .slots .now)
+    slot-in-work (args .at) (args .n) (args .x) (args .y) (args .z) (c .before .loop .rest % 16) (length (args .work .now)) (length (c .before .loop .work)) (args .slots .now)
     (start .pre .1 .0 .1) (cell .in-x) (cell .in-y) (start .pre .1 .1 .1 .0) (c .before .loop .inv .3) (edge-lt c)
 
 element-copy-out-place : tie.Need-element-copy-out-place Inv-loop μ-loop
@@ -64,13 +64,16 @@ put-vertex-requires c κs =
     (start .pre .0, (edge-lt turn, start .pre .1 .0 .0))
 
 add-made : tie.Need-add-made Inv-loop μ-loop
-add-made c = search needs
+add-made c =
+    let turn = c .before .before .before .before .before in
+    let given = turn .before .before .before .before .before .pre .1 .1 in
+    omega (arith, turn .before .loop .inv .0, turn .loop-test .taken, given .0 .1, given .1 .1)
 
 sub-left : tie.Need-sub-left Inv-loop μ-loop
-sub-left c = search needs
+sub-left c = omega (arith, c .before .before .before .before .before .loop-test .taken)
 
 loop-less : tie.Need-loop-less Inv-loop μ-loop
-loop-less c = search needs
+loop-less c = omega (arith, c .before .before .before .before .before .loop-test .taken)
 
 loop-again : tie.Need-loop-again Inv-loop μ-loop
 loop-again c =
@@ -79,8 +82,8 @@ loop-again c =
     let start = turn .before .before .before .before .before in
     let args = start .args in
     let put = c .before .before .put-vertex .ensures in (
-      omega arith,
-      omega arith,
+      omega (arith, turn .loop-test .taken, now .inv .0),
+      omega (arith, now .inv .1),
       later-edges (now .left) (now .rest) (turn .loop-test .taken) (now .inv .2),
       length-set (now .work) _ _ ∙ now .inv .3,
       c .before .vertices .given ∙ now .inv .4,
@@ -91,19 +94,19 @@ loop-again c =
     )
 
 same-length : tie.Need-same-length Inv-loop μ-loop
-same-length c = search needs
+same-length c = c .before .loop .inv .3
 
 same-length-2 : tie.Need-same-length-2 Inv-loop μ-loop
-same-length-2 c = search needs
+same-length-2 c = c .before .loop .inv .4
 
 returns : tie.Need-returns Inv-loop μ-loop
 returns c =
     let now = c .before .loop in
     let args = c .before .before .before .before .before .args in (
       λ l.
-          sym (each-none (makeEdge (storeAt (args .n) (args .samples .now)) (args .n) (args .z) (args .y) (args .x)) (now .left) (now .rest) _ (omega arith))
+          sym (each-none (makeEdge (storeAt (args .n) (args .samples .now)) (args .n) (args .z) (args .y) (args .x)) (now .left) (now .rest) (hand (now .work) (now .vertices) l (now .made) (args .counts .written)) (omega (arith, c .loop-test .left)))
           ∙ now .inv .5 l,
-      (omega arith, refl),
+      (omega (arith, c .loop-test .left, now .inv .0), refl),
     )
 
 pub make-all-spec : {M : Type 1} → statement M

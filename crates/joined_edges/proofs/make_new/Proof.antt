@@ -5,7 +5,6 @@ use Prim.Native.Nat.{ℕ, _+_}
 use native.Mathlib.Nat.{le-trans}
 use lib.ListN.{getD}
 use lib.Dec.{eqb}
-use borrow.Author.Needs.{needs}
 use borrow.Author.Tests.{eqb-true}
 use Rattle.walk.proofs.Bools.{and-left}
 use Rattle.walk_models.specs.Owned.{makeEdge}
@@ -22,10 +21,10 @@ held : (c : tie.After-new-word)
 held c =
     let start = c .before .before .before .before in
     let known = start .pre .1 .0 in
-    words _ _ _ rowWords (start .args .news .now) (known .2) (known .1) refl (known .0) (c .new-word .ensures)
+    words (start .args .class) (start .args .case) (c .new-word .result) rowWords (start .args .news .now) (known .2) (known .1) refl (known .0) (c .new-word .ensures)
 
 new-word-requires : tie.Need-new-word-requires
-new-word-requires c κs = search needs
+new-word-requires c κs = let known = c .before .before .before .pre .1 .0 in (known .1, known .2)
 
 make-inner-requires : tie.Need-make-inner-requires
 make-inner-requires c κs =
@@ -42,10 +41,10 @@ make-all-requires c κs =
     (pre .0, (pre .1 .1 .0, ((w .new-known, le-trans (w .new-most) (w .row-most)), pre .1 .1 .1)))
 
 same-length : tie.Need-same-length
-same-length c = search needs
+same-length c = c .before .before .before .work .given
 
 same-length-2 : tie.Need-same-length-2
-same-length-2 c = search needs
+same-length-2 c = c .before .vertices .given
 
 -- by marks
 returns : tie.Need-returns
@@ -59,18 +58,18 @@ returns c =
     let known = start .pre .1 .0 in
     let w = held word in
     let counts = inner .make-inner .ensures .1 in
-    let m = inner-marks _ _ _ (args .news .now) (eqb-true _ 0 (and-left (eqb (args .class) 0) _ (class .if1 .taken))) (known .1) (known .0) (word .new-word .ensures) in (
+    let m = inner-marks (args .class) (args .case) (word .new-word .result) (args .news .now) (eqb-true (args .class) 0 (and-left (eqb (args .class) 0) _ (class .if1 .taken))) (known .1) (known .0) (word .new-word .ensures) in (
       λ l.
-          inner-made (args .samples .now) (args .n) (args .x) (args .y) (args .z) _ _ _ _ (cell .in-x) (cell .in-y) w m (args .work .now) l _
-          (args .vertices .now) _ (args .counts .made) (args .counts .written) _ _ (inner .make-inner .ensures .0 l) (counts .0) (counts .1),
+          inner-made (args .samples .now) (args .n) (args .x) (args .y) (args .z) (args .class) (args .case) (getD rowWords (args .case) 0) (word .new-word .result) (cell .in-x) (cell .in-y) w m (args .work .now) l _
+          (args .vertices .now) _ (args .counts .made) (args .counts .written) (inner .make-inner .result .made) (inner .make-inner .result .written) (inner .make-inner .ensures .0 l) (counts .0) (counts .1),
       (counts .0 ∙ ap (λ (k : ℕ). args .counts .made + k) (sym (w .new-count)), counts .1),
     )
 
 same-length-3 : tie.Need-same-length-3
-same-length-3 c = search needs
+same-length-3 c = c .before .before .before .work2 .given
 
 same-length-4 : tie.Need-same-length-4
-same-length-4 c = search needs
+same-length-4 c = c .before .vertices2 .given
 
 -- by the list
 returns-2 : tie.Need-returns-2

@@ -5,7 +5,6 @@ use Prim.Native.Nat.{ℕ, _+_, _-_, _*_, _/_, _%_, _≤_, _<_}
 use native.Mathlib.Omega.{arith}
 use lib.ListN.{length, getD}
 use lib.Ieee.{Float}
-use borrow.Author.Needs.{needs}
 use Rattle.walk.specs.Walk.{Visit}
 use Rattle.walk_models.specs.Owned.{nameEdge}
 use Rattle.packed_tables.specs.Unpacked.{unpacked, Edges}
@@ -28,8 +27,7 @@ abbrev μ-loop : tie.MeasureT-loop
 loop-holds : tie.Need-loop-holds Inv-loop μ-loop
 loop-holds c =
     let start = c .before .before in
-    let most = start .pre .0 .1 in
-    (refl, omega arith, start .pre .0 .0, refl, λ n x y z store b places. refl)
+    (refl, omega (arith, start .pre .0 .1), start .pre .0 .0, refl, λ n x y z store b places. refl)
 
 -- the edges of a turn
 edges : (c : tie.In-loop Inv-loop μ-loop)
@@ -53,16 +51,22 @@ first-number-requires-3 : tie.Need-first-number-requires-3 Inv-loop μ-loop
 first-number-requires-3 c κs = let turn = c .before .before in let h = edges turn .2 in (h, place-lt turn _ h)
 
 put-three-requires : tie.Need-put-three-requires Inv-loop μ-loop
-put-three-requires c κs = search needs
+put-three-requires c κs =
+    let turn = c .before .before .before .before in
+    let given = turn .before .before .before .before .pre in
+    omega (arith, turn .before .loop .inv .0, turn .loop-test .taken, given .0 .1, given .1 .1)
 
 add-written : tie.Need-add-written Inv-loop μ-loop
-add-written c = search needs
+add-written c =
+    let turn = c .before .before .before .before .before .before .before in
+    let given = turn .before .before .before .before .pre in
+    omega (arith, turn .before .loop .inv .0, turn .loop-test .taken, given .0 .1, given .1 .1)
 
 sub-left : tie.Need-sub-left Inv-loop μ-loop
-sub-left c = search needs
+sub-left c = omega (arith, c .before .before .before .before .before .before .before .loop-test .taken)
 
 loop-less : tie.Need-loop-less Inv-loop μ-loop
-loop-less c = search needs
+loop-less c = omega (arith, c .before .before .before .before .before .before .before .loop-test .taken)
 
 loop-again : tie.Need-loop-again Inv-loop μ-loop
 loop-again c =
@@ -71,25 +75,25 @@ loop-again c =
     let now = turn .before .loop in
     let args = turn .before .before .before .before .args in
     let put = c .before .before .put-three .ensures in (
-      omega arith,
-      omega arith,
+      omega (arith, turn .loop-test .taken, now .inv .0),
+      omega (arith, now .inv .1),
       edges turn .3,
       c .before .indices .given ∙ now .inv .3,
       λ n x y z store b places.
           sym (name-three store n x y z (args .at) (args .slots .now) places (now .left) (now .rest) (turn .loop-test .taken) (now .inv .2)
-          (args .counts .made) (now .written) (args .work .now) (now .indices) b _ _ _
+          (args .counts .made) (now .written) (args .work .now) (now .indices) b (third .before .before .first-number .result) (third .before .first-number2 .result) (third .first-number3 .result)
           (third .before .before .first-number .ensures) (third .before .first-number2 .ensures) (third .first-number3 .ensures) _ put)
           ∙ now .inv .4 n x y z store b places,
     )
 
 same-length : tie.Need-same-length Inv-loop μ-loop
-same-length c = search needs
+same-length c = c .before .loop .inv .3
 
 returns : tie.Need-returns Inv-loop μ-loop
 returns c =
     let now = c .before .loop in (
-      λ n x y z store b places. sym (each-none (nameEdge store n z y x) (3 * now .left) (now .rest) _ (omega arith)) ∙ now .inv .4 n x y z store b places,
-      (refl, omega arith),
+      λ n x y z store b places. sym (each-none (nameEdge store n z y x) (3 * now .left) (now .rest) _ (omega (arith, c .loop-test .left))) ∙ now .inv .4 n x y z store b places,
+      (refl, omega (arith, c .loop-test .left, now .inv .0)),
     )
 
 pub name-all-spec : {M : Type 1} → statement M

@@ -27,8 +27,7 @@ abbrev μ-loop : tie.MeasureT-loop
 loop-holds : tie.Need-loop-holds Inv-loop μ-loop
 loop-holds c =
     let start = c .before in
-    let most = start .pre .1 in
-    (refl, omega arith, start .pre .0, refl, λ work layer row b. refl)
+    (refl, omega (arith, start .pre .1), start .pre .0, refl, λ work layer row b. refl)
 
 -- the edges of a turn
 edges : (c : tie.In-loop Inv-loop μ-loop)
@@ -58,21 +57,24 @@ put-three-requires : tie.Need-put-three-requires Inv-loop μ-loop
 put-three-requires c κs = search needs
 
 add-written : tie.Need-add-written Inv-loop μ-loop
-add-written c = search needs
+add-written c =
+    let turn = c .before .before .before .before .before .before .before in
+    let given = turn .before .before .before .pre in
+    omega (arith, turn .before .loop .inv .0, turn .loop-test .taken, given .1, given .2)
 
 sub-left : tie.Need-sub-left Inv-loop μ-loop
-sub-left c = search needs
+sub-left c = omega (arith, c .before .before .before .before .before .before .before .loop-test .taken)
 
 loop-less : tie.Need-loop-less Inv-loop μ-loop
-loop-less c = search needs
+loop-less c = omega (arith, c .before .before .before .before .before .before .before .loop-test .taken)
 
 loop-again : tie.Need-loop-again Inv-loop μ-loop
 loop-again c =
     let turn = c .before .before .before .before .before .before .before in
     let now = turn .before .loop in
     let args = turn .before .before .before .args in (
-      omega arith,
-      omega arith,
+      omega (arith, turn .loop-test .taken, now .inv .0),
+      omega (arith, now .inv .1),
       edges turn .3,
       c .before .indices .given ∙ now .inv .3,
       λ work layer row b.
@@ -82,13 +84,13 @@ loop-again c =
     )
 
 same-length : tie.Need-same-length Inv-loop μ-loop
-same-length c = search needs
+same-length c = c .before .loop .inv .3
 
 returns : tie.Need-returns Inv-loop μ-loop
 returns c =
     let now = c .before .loop in (
-      λ work layer row b. name-none _ (now .left) (now .rest) _ _ _ (omega arith) (now .inv .4 work layer row b),
-      (refl, omega arith),
+      λ work layer row b. name-none _ (now .left) (now .rest) _ _ _ (omega (arith, c .loop-test .left)) (now .inv .4 work layer row b),
+      (refl, omega (arith, c .loop-test .left, now .inv .0)),
     )
 
 pub name-all-spec : {M : Type 1} → statement M

@@ -1,6 +1,8 @@
 -- `make_named`: an edge that the word names, or nothing is done.
 use Rattle.regular_edges.proofs.NamedEdges.{named-there, named-absent}
 use borrow.Author.Needs.{needs}
+use Rattle.lent_mesh.specs.Stored.{inHand}
+use Rattle.held_visits.specs.CellMemory.{inCell}
 use Rattle.regular_edges.proofs.make_named.Statement.{statement}
 use Rattle.regular_edges.proofs.make_named.Tie as tie
 
@@ -28,19 +30,24 @@ make-edge-requires c κs =
     (given .0, (given .1 .0, (given .1 .1 .0, given .1 .1 .1)))
 
 same-length : tie.Need-same-length
-same-length c = search needs
+same-length c = c .before .before .before .work .given
 
 same-length-2 : tie.Need-same-length-2
-same-length-2 c = search needs
+same-length-2 c = c .before .vertices .given
 
 returns : tie.Need-returns
 returns c =
     let made = c .before .before .before .before in
     let chosen = made .before .before .before .before in
-    λ is counts. named-there _ _ _ _ _ _ _ _ _ _ (chosen .if1 .taken) (made .make-edge .ensures is counts)
+    let args = chosen .before .before .before .before .args in
+    λ is counts. named-there (args .n) (args .samples .now) (args .x) (args .y) (args .z) (args .regular) (args .made) (args .edge) (inHand (inCell (args .work .now) (args .layer) (args .row) (args .current .now)) (args .vertices .now) is counts) _
+    (chosen .if1 .taken) (made .make-edge .ensures is counts)
 
 returns-2 : tie.Need-returns-2
-returns-2 c = λ is counts. named-absent _ _ _ _ _ _ _ _ _ (c .if1 .left)
+returns-2 c =
+    let args = c .before .before .before .before .args in
+    λ is counts. named-absent (args .n) (args .samples .now) (args .x) (args .y) (args .z) (args .regular) (args .made) (args .edge) (inHand (inCell (args .work .now) (args .layer) (args .row) (args .current .now)) (args .vertices .now) is counts)
+    (c .if1 .left)
 
 pub make-named-spec : {M : Type 1} → statement M
 make-named-spec =
