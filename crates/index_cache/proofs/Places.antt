@@ -1,17 +1,22 @@
--- The places that the code works out, and what a store or a read there is in the model. For `layer_place`, `put`, `found` and `clear_row`.
+-- The places that the code works out, and what a store or a read there is in the model. For `layer_place`, `put`, `found` and `clear_row`;
+-- and that a store leaves the room for the cache, for whoever goes on storing.
 use mathlib.Core.Path.{_≡_, sym, ap, _∙_}
 use mathlib.Core.Bool.{cond}
 use mathlib.Core.List.{List, [], _∷_}
 use Prim.Native.Nat.{ℕ, suc, _+_, _-_, _*_, _≤_, _<_}
 use native.Mathlib.Nat.{add-zero, mul-le-mul}
 use native.Mathlib.Numerals.{add-one}
+use native.Mathlib.Omega.{arith}
 use lib.Dec.{ltb}
-use lib.ListN.{getD, set}
+use lib.ListN.{length, getD, set}
 use Rattle.walk.specs.Walk.{times}
 use Rattle.walk.specs.Cache.{inLayer, putColumn}
 use Rattle.walk.proofs.Rank.{place-lt}
 use Rattle.walk_models.specs.CacheMemory.{putLayer, putRow, clearRow}
-use Rattle.index_cache.specs.Found.{foundAll}
+use Rattle.index_cache.specs.Found.{CacheRoom, foundAll}
+
+pub room-kept : {n layer row : ℕ} (work next : List ℕ) → length next ≡ length work → CacheRoom n layer row work → CacheRoom n layer row next
+room-kept work next same h = record { most = h .most; layer-le = h .layer-le; row-le = h .row-le; room = omega (arith, h .room, same) }
 
 -- a place of a layer, and how many there are
 pub place-below : (n x y l : ℕ) → (n ≤ 128) × (x < n) × (y < n) × (l ≤ 1) → (y * n + x < n * n) × (n * n ≤ 16384)

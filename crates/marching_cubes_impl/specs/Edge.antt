@@ -20,7 +20,7 @@ abbrev pub crossingOf : Float → Float → Crossing
 crossingOf a b =
     cond (good a) (cond (good b) (cond (crosses a b) (At (offsetOf a b)) Absent) (Refused 1)) (Refused 0)
 
--- the paper's cause and place of an answer, and the offset that it carries
+-- document 01's cause and place of an answer, and the offset that it carries
 abbrev pub causeOf : Crossing → ℕ
 causeOf Absent = 0
 causeOf (At t) = 0

@@ -18,7 +18,7 @@ parentOf key = cond (good key) (number.Is (max (key / 8) 1)) number.Refused
 abbrev pub childOf : ℕ → ℕ → Number
 childOf key which = cond (good key && ltb (levelIn key) 21 && leb which 7) (number.Is (8 * key + which)) number.Refused
 
--- the paper's cause of an answer, and the value that it carries: zero where refused
+-- document 01's cause of an answer, and the value that it carries: zero where refused
 abbrev pub numberCause : Number → ℕ
 numberCause (number.Is value) = 0
 numberCause number.Refused = 9

@@ -33,7 +33,7 @@ centerOn axis key = centerAt (below axis key) (levelIn key)
 abbrev pub centerOf : ℕ → Point
 centerOf key = cond (good key) (point.At (record { x = centerOn X key; y = centerOn Y key; z = centerOn Z key })) point.Refused
 
--- the paper's cause of an answer, and the value that it carries: zero where refused
+-- document 01's cause of an answer, and the value that it carries: zero where refused
 abbrev pub lengthCause : Length → ℕ
 lengthCause (length.Is value) = 0
 lengthCause length.Refused = 9

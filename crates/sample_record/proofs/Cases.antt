@@ -1,5 +1,5 @@
 -- Records and what is made of them, as one claim over a list: the header of document 01's cases, each refusal, the order of the refusals
--- where several hold, the limits of the library and of the listing program, and samples.
+-- where several hold, the limits of the library and of the listing program, the four numbers of an answer, and samples.
 use mathlib.Core.Path.{_≡_, refl}
 use mathlib.Core.Bool.{true, false}
 use mathlib.Core.List.{List, [], _∷_, _++_, map}
@@ -10,7 +10,7 @@ use lib.Ieee.{Float, nan, fin, ofBits}
 use Rattle.sample_record.specs.declared.Record.{Record}
 use Rattle.sample_record.specs.declared.Record.the-variants.{Holds, Malformed, BadSize, BadNumbering, BadCount}
 use Rattle.little_endian.specs.Words.{wordAt}
-use Rattle.sample_record.specs.Record.{recordOf}
+use Rattle.sample_record.specs.Record.{recordOf, causeOf, placeOf, sizeOf, numberingOf}
 use Rattle.record_samples.specs.Samples.{samplesOf}
 
 -- a word below 2 ^ 16, lowest byte first
@@ -26,19 +26,25 @@ made version size numbering count offset bytes =
 grid : ℕ → List ℕ
 grid numbering = made 1 2 numbering 12 20 48
 
--- what is asked: of the library, of the listing program, or for the samples
+-- what is asked: of the library, of the listing program, for the numbers of the library's answer, or for the samples
 data Case : Type 0 where
   library : List ℕ → Case
   program : List ℕ → Case
+  numbers : List ℕ → Case
   samples : List ℕ → Case
 
+-- cause, place, size and numbering
 data Answer : Type 0 where
   isRecord : Record → Answer
+  isNumbers : ℕ → ℕ → ℕ → ℕ → Answer
   isSamples : List Float → Answer
 
 abbrev answer : Case → Answer
 answer (library bytes) = isRecord (recordOf 128 bytes)
 answer (program bytes) = isRecord (recordOf 7 bytes)
+answer (numbers bytes) =
+    let found = recordOf 128 bytes in
+    isNumbers (causeOf found) (placeOf found) (sizeOf found) (numberingOf found)
 answer (samples bytes) = isSamples (samplesOf bytes)
 
 cases : map answer (
@@ -71,6 +77,12 @@ cases : map answer (
     library (made 1 8 9 576 20 0) ∷
     program (made 1 8 9 576 20 0) ∷
     program (made 1 7 9 392 20 0) ∷
+    -- the numbers of each answer: what the cause does not use is 0
+    numbers (grid 1) ∷
+    numbers (take 19 (grid 0)) ∷
+    numbers (made 1 129 1 12 20 48) ∷
+    numbers (made 1 2 2 12 20 48) ∷
+    numbers (made 1 2 1 13 20 52) ∷
     -- 1.0, the least value above 0, minus zero, a NaN, and three bytes that are no sample
     samples (take 20 (grid 0) ++ 0 ∷ 0 ∷ 128 ∷ 63 ∷ 1 ∷ 0 ∷ 0 ∷ 0 ∷ 0 ∷ 0 ∷ 0 ∷ 128 ∷ 1 ∷ 0 ∷ 128 ∷ 255 ∷ 7 ∷ 7 ∷ 7 ∷ []) ∷
     []) ≡
@@ -95,6 +107,11 @@ cases : map answer (
     isRecord BadNumbering ∷
     isRecord BadSize ∷
     isRecord BadNumbering ∷
+    isNumbers 0 0 2 1 ∷
+    isNumbers 8 19 0 0 ∷
+    isNumbers 1 0 0 0 ∷
+    isNumbers 2 0 0 0 ∷
+    isNumbers 3 0 0 0 ∷
     isSamples (fin false 1 (pos 0) ∷ fin false 1 (negsuc 148) ∷ fin true 0 (pos 0) ∷ nan ∷ []) ∷
     []
 unfolding grid made small wordAt ofBits

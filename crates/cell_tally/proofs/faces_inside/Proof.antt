@@ -59,10 +59,22 @@ add-x : tie.Need-add-x
 add-x c = omega (arith, c .before .before .before .before .set-in5 .ensures .1, c .set-in6 .ensures .1)
 
 add-result : tie.Need-add-result
-add-result c = omega (arith, c .before .before .before .before .before .before .before .before .before .before .before .before .before .before .before .before .before .before .before .before .set-in .ensures .1, c .before .before .before .before .before .before .before .before .before .before .before .before .before .before .before .before .set-in2 .ensures .1, c .before .before .before .before .before .before .before .before .before .before .before .before .set-in3 .ensures .1, c .before .before .before .before .before .before .before .before .set-in4 .ensures .1)
+add-result c =
+    let s1 = c .before .before .before .before .before .before .before .before .before .before .before .before .before .before .before .before .before .before .before .before .set-in .ensures .1 in
+    let s2 = c .before .before .before .before .before .before .before .before .before .before .before .before .before .before .before .before .set-in2 .ensures .1 in
+    let s3 = c .before .before .before .before .before .before .before .before .before .before .before .before .set-in3 .ensures .1 in
+    let s4 = c .before .before .before .before .before .before .before .before .set-in4 .ensures .1 in
+    omega (arith, s1, s2, s3, s4)
 
 add-result-2 : tie.Need-add-result-2
-add-result-2 c = omega (arith, c .before .before .before .before .before .before .before .before .before .before .before .before .before .before .before .before .before .before .before .before .set-in .ensures .1, c .before .before .before .before .before .before .before .before .before .before .before .before .before .before .before .before .set-in2 .ensures .1, c .before .before .before .before .before .before .before .before .before .before .before .before .set-in3 .ensures .1, c .before .before .before .before .before .before .before .before .set-in4 .ensures .1, c .before .before .before .before .set-in5 .ensures .1, c .set-in6 .ensures .1)
+add-result-2 c =
+    let s1 = c .before .before .before .before .before .before .before .before .before .before .before .before .before .before .before .before .before .before .before .before .set-in .ensures .1 in
+    let s2 = c .before .before .before .before .before .before .before .before .before .before .before .before .before .before .before .before .set-in2 .ensures .1 in
+    let s3 = c .before .before .before .before .before .before .before .before .before .before .before .before .set-in3 .ensures .1 in
+    let s4 = c .before .before .before .before .before .before .before .before .set-in4 .ensures .1 in
+    let s5 = c .before .before .before .before .set-in5 .ensures .1 in
+    let s6 = c .set-in6 .ensures .1 in
+    omega (arith, s1, s2, s3, s4, s5, s6)
 
 returns : tie.Need-returns
 returns c =

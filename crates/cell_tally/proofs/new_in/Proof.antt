@@ -77,16 +77,39 @@ add-upper : tie.Need-add-upper
 add-upper c = omega (arith, c .before .before .set-in6 .ensures .1, c .set-in7 .ensures .1)
 
 add-result : tie.Need-add-result
-add-result c = omega (arith, c .before .before .before .before .before .before .before .before .before .before .before .before .set-in .ensures .1, c .before .before .before .before .before .before .before .before .before .before .set-in2 .ensures .1, c .before .before .before .before .before .before .before .before .set-in3 .ensures .1, c .before .before .before .before .before .before .set-in4 .ensures .1, c .before .before .before .before .set-in5 .ensures .1)
+add-result c =
+    let s1 = c .before .before .before .before .before .before .before .before .before .before .before .before .set-in .ensures .1 in
+    let s2 = c .before .before .before .before .before .before .before .before .before .before .set-in2 .ensures .1 in
+    let s3 = c .before .before .before .before .before .before .before .before .set-in3 .ensures .1 in
+    let s4 = c .before .before .before .before .before .before .set-in4 .ensures .1 in
+    let s5 = c .before .before .before .before .set-in5 .ensures .1 in
+    omega (arith, s1, s2, s3, s4, s5)
 
 add-result-2 : tie.Need-add-result-2
-add-result-2 c = omega (arith, c .before .before .before .before .before .before .before .before .before .before .before .before .set-in .ensures .1, c .before .before .before .before .before .before .before .before .before .before .set-in2 .ensures .1, c .before .before .before .before .before .before .before .before .set-in3 .ensures .1, c .before .before .before .before .before .before .set-in4 .ensures .1, c .before .before .before .before .set-in5 .ensures .1, c .before .before .set-in6 .ensures .1, c .set-in7 .ensures .1)
+add-result-2 c =
+    let s1 = c .before .before .before .before .before .before .before .before .before .before .before .before .set-in .ensures .1 in
+    let s2 = c .before .before .before .before .before .before .before .before .before .before .set-in2 .ensures .1 in
+    let s3 = c .before .before .before .before .before .before .before .before .set-in3 .ensures .1 in
+    let s4 = c .before .before .before .before .before .before .set-in4 .ensures .1 in
+    let s5 = c .before .before .before .before .set-in5 .ensures .1 in
+    let s6 = c .before .before .set-in6 .ensures .1 in
+    let s7 = c .set-in7 .ensures .1 in
+    omega (arith, s1, s2, s3, s4, s5, s6, s7)
 
 set-in-requires-8 : tie.Need-set-in-requires-8
 set-in-requires-8 c κs = search needs
 
 add-result-3 : tie.Need-add-result-3
-add-result-3 c = omega (arith, c .before .before .before .before .before .before .before .before .before .before .before .before .before .before .set-in .ensures .1, c .before .before .before .before .before .before .before .before .before .before .before .before .set-in2 .ensures .1, c .before .before .before .before .before .before .before .before .before .before .set-in3 .ensures .1, c .before .before .before .before .before .before .before .before .set-in4 .ensures .1, c .before .before .before .before .before .before .set-in5 .ensures .1, c .before .before .before .before .set-in6 .ensures .1, c .before .before .set-in7 .ensures .1, c .set-in8 .ensures .1)
+add-result-3 c =
+    let s1 = c .before .before .before .before .before .before .before .before .before .before .before .before .before .before .set-in .ensures .1 in
+    let s2 = c .before .before .before .before .before .before .before .before .before .before .before .before .set-in2 .ensures .1 in
+    let s3 = c .before .before .before .before .before .before .before .before .before .before .set-in3 .ensures .1 in
+    let s4 = c .before .before .before .before .before .before .before .before .set-in4 .ensures .1 in
+    let s5 = c .before .before .before .before .before .before .set-in5 .ensures .1 in
+    let s6 = c .before .before .before .before .set-in6 .ensures .1 in
+    let s7 = c .before .before .set-in7 .ensures .1 in
+    let s8 = c .set-in8 .ensures .1 in
+    omega (arith, s1, s2, s3, s4, s5, s6, s7, s8)
 
 returns : tie.Need-returns
 returns c =

@@ -5,6 +5,7 @@ use native.Mathlib.Omega.{arith}
 use lib.ListN.{length}
 use Rattle.packed_tables.specs.Unpacked.{unpacked, Edges}
 use Rattle.lent_mesh.specs.Stored.{inHand}
+use Rattle.index_cache.proofs.Places.{room-kept}
 use Rattle.held_visits.specs.CellMemory.{inCell}
 use Rattle.packed_tables.proofs.PackedEdges.{edges-first, edges-rest}
 use Rattle.held_visits.proofs.PackedVisits.{ToGo, turn-taken, all-taken}
@@ -32,13 +33,12 @@ visit-requires : tie.Need-visit-requires Inv-loop μ-loop
 visit-requires c κs =
     let turn = c .before .before .before .before .before in
     let start = turn .before .before .before .before .before in
-    let room = start .pre .1 .0 in
     let taken = c .before .before .before .before .loop-test .taken in
     let inv = turn .loop .inv in
     let fits = start .pre .1 .1 .1 .1 in (
       start .pre .0,
       (
-        record { most = room .most; layer-le = room .layer-le; row-le = room .row-le; room = omega (arith, room .room, inv .2) },
+        room-kept _ _ (inv .2) (start .pre .1 .0),
         ((edges-first (turn .loop .left) (turn .loop .rest) taken (inv .5), start .pre .1 .1 .0 .0), (omega (arith, taken, inv .0, inv .1, fits), omega (arith, taken, inv .1, fits))),
       ),
     )

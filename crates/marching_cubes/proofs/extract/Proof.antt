@@ -80,11 +80,15 @@ refused-requires-5 c κs = search needs
 
 returns-5 : tie.Need-returns-5
 returns-5 c =
-    let a = c .before .before .before .before .before .before .before .before .before .before .before .args in
-    let room = c .before .before .work-room .ensures in
+    let roomed = c .before .before in
+    let whole = roomed .before in
+    let start = whole .before .before .before .before .before .before .before .before in
+    let a = start .args in
+    let room = roomed .work-room .ensures in
     let short = c .before .if5 .taken in
     answered (c .refused5 .result) _ (a .work .now) (a .vertices .now) (a .indices .now) _ (c .refused5 .ensures)
-    (work-short (a .size) (a .numbering) (a .samples .now) (a .work .now) (a .vertices .now) (a .indices .now) (c .before .before .before .before .before .before .if1 .left) (c .before .before .before .before .before .if2 .left) (c .before .before .before .before .if3 .left) (c .before .before .before .if4 .left) (omega (arith, room, short)))
+    (work-short (a .size) (a .numbering) (a .samples .now) (a .work .now) (a .vertices .now) (a .indices .now)
+    (whole .before .before .before .if1 .left) (whole .before .before .if2 .left) (whole .before .if3 .left) (whole .if4 .left) (omega (arith, room, short)))
 
 any-bad-requires : tie.Need-any-bad-requires
 any-bad-requires c κs = search needs
@@ -97,18 +101,28 @@ refused-requires-6 c κs = search needs
 
 returns-6 : tie.Need-returns-6
 returns-6 c =
-    let a = c .before .before .before .before .before .before .before .before .before .before .before .before .before .before .args in
-    let room = c .before .before .before .before .before .work-room .ensures in
-    let enough = c .before .before .before .before .if5 .left in
-    let bad = ltb-true (lowestBad (a .samples .now)) (length (a .samples .now)) (sym (anyBad-lowestBad (a .samples .now)) ∙ sym (c .before .before .before .any-bad .ensures) ∙ c .before .before .if6 .taken) in
-    answered (c .refused6 .result) _ (a .work .now) (a .vertices .now) (a .indices .now) _ (c .refused6 .ensures ∙ ap (λ (place : ℕ). record { cause = 5; place = place; vertices = 0; indices = 0 }) (c .before .lowest-bad .ensures))
-    (sample-bad (a .size) (a .numbering) (a .samples .now) (a .work .now) (a .vertices .now) (a .indices .now) (c .before .before .before .before .before .before .before .before .before .if1 .left) (c .before .before .before .before .before .before .before .before .if2 .left) (c .before .before .before .before .before .before .before .if3 .left) (c .before .before .before .before .before .before .if4 .left) (omega (arith, room, enough)) bad)
+    let checked = c .before .before .before in
+    let roomed = checked .before .before in
+    let whole = roomed .before in
+    let start = whole .before .before .before .before .before .before .before .before in
+    let a = start .args in
+    let room = roomed .work-room .ensures in
+    let enough = checked .before .if5 .left in
+    let found = sym (anyBad-lowestBad (a .samples .now)) ∙ sym (checked .any-bad .ensures) ∙ c .before .before .if6 .taken in
+    let bad = ltb-true (lowestBad (a .samples .now)) (length (a .samples .now)) found in
+    answered (c .refused6 .result) _ (a .work .now) (a .vertices .now) (a .indices .now) _
+    (c .refused6 .ensures ∙ ap (λ (place : ℕ). record { cause = 5; place = place; vertices = 0; indices = 0 }) (c .before .lowest-bad .ensures))
+    (sample-bad (a .size) (a .numbering) (a .samples .now) (a .work .now) (a .vertices .now) (a .indices .now)
+    (whole .before .before .before .if1 .left) (whole .before .before .if2 .left) (whole .before .if3 .left) (whole .if4 .left) (omega (arith, room, enough)) bad)
 
 meshed-requires : tie.Need-meshed-requires
 meshed-requires c κs =
-    let room = c .before .before .before .before .before .before .work-room .ensures in
-    let enough = c .before .before .before .before .before .if5 .left in
-    record { least = c .before .before .before .before .before .before .before .before .before .before .if1 .left; most = c .before .before .before .before .before .before .before .before .before .if2 .left; samples-whole = c .before .before .before .before .before .before .before .if4 .left; work-room = omega (arith, room, enough) }
+    let checked = c .before .before .before .before in
+    let roomed = checked .before .before in
+    let whole = roomed .before in
+    let room = roomed .work-room .ensures in
+    let enough = checked .before .if5 .left in
+    record { least = whole .before .before .before .if1 .left; most = whole .before .before .if2 .left; samples-whole = whole .if4 .left; work-room = omega (arith, room, enough) }
 
 same-length : tie.Need-same-length
 same-length c = c .before .before .before .before .before .work .given
@@ -121,12 +135,20 @@ same-length-3 c = c .before .indices .given
 
 returns-7 : tie.Need-returns-7
 returns-7 c =
-    let a = c .before .before .before .before .before .before .before .before .before .before .before .before .before .before .before .before .before .before .before .before .before .before .args in
-    let room = c .before .before .before .before .before .before .before .before .before .before .before .before .before .work-room .ensures in
-    let enough = c .before .before .before .before .before .before .before .before .before .before .before .before .if5 .left in
-    let good = ltb-false (lowestBad (a .samples .now)) (length (a .samples .now)) (sym (anyBad-lowestBad (a .samples .now)) ∙ sym (c .before .before .before .before .before .before .before .before .before .before .before .any-bad .ensures) ∙ c .before .before .before .before .before .before .before .before .before .before .if6 .left) in
-    filled-by _ _ (filled (a .size) (a .numbering) (a .samples .now) (a .work .now) (a .vertices .now) (a .indices .now) (surfaceOf (a .size) (a .numbering) (a .samples .now))) (c .before .before .before .before .before .before .meshed .ensures)
-    (accepted (a .size) (a .numbering) (a .samples .now) (a .work .now) (a .vertices .now) (a .indices .now) (c .before .before .before .before .before .before .before .before .before .before .before .before .before .before .before .before .before .if1 .left) (c .before .before .before .before .before .before .before .before .before .before .before .before .before .before .before .before .if2 .left) (c .before .before .before .before .before .before .before .before .before .before .before .before .before .before .before .if3 .left) (c .before .before .before .before .before .before .before .before .before .before .before .before .before .before .if4 .left) (omega (arith, room, enough)) good)
+    let called = c .before .before .before .before .before .before in
+    let checked = called .before .before .before .before .before in
+    let roomed = checked .before .before in
+    let whole = roomed .before in
+    let start = whole .before .before .before .before .before .before .before .before in
+    let a = start .args in
+    let room = roomed .work-room .ensures in
+    let enough = checked .before .if5 .left in
+    let none = sym (anyBad-lowestBad (a .samples .now)) ∙ sym (checked .any-bad .ensures) ∙ called .before .before .before .before .if6 .left in
+    let good = ltb-false (lowestBad (a .samples .now)) (length (a .samples .now)) none in
+    let surface = surfaceOf (a .size) (a .numbering) (a .samples .now) in
+    filled-by _ _ (filled (a .size) (a .numbering) (a .samples .now) (a .work .now) (a .vertices .now) (a .indices .now) surface) (called .meshed .ensures)
+    (accepted (a .size) (a .numbering) (a .samples .now) (a .work .now) (a .vertices .now) (a .indices .now)
+    (whole .before .before .before .if1 .left) (whole .before .before .if2 .left) (whole .before .if3 .left) (whole .if4 .left) (omega (arith, room, enough)) good)
 
 pub extract-spec : {M : Type 1} → statement M
 extract-spec =
