@@ -122,27 +122,50 @@ build/listing/program: $(SOURCES) $(LISTING_SOURCES) | setup
 	mkdir -p build/listing
 	cp target/bin/listing $@
 
-PLANNER := planner/planner.c $(wildcard mesh_files/*.c)
-WORKSHOP := $(wildcard workshop/*.c mesh_files/*.c)
+FILES := $(wildcard mesh_files/*.c)
+PLANNER := planner/planner.c $(FILES)
+WORKSHOP := $(wildcard workshop/*.c) $(FILES)
+GRID := planner/grid.c mesh_files/messages.c
+LIBC := $(wildcard tools/libc-x86-64/*.h tools/libc-x86-64/sys/*.h)
 HEADERS := $(wildcard include/*.h mesh_files/*.h workshop/*.h)
-CHECKED := cc -std=c99 -g -O1 -Wall -Wextra -Werror -pedantic -fsanitize=address,undefined -fno-sanitize-recover=all -Iinclude -Imesh_files
+WARNINGS := -std=c99 -Wall -Wextra -pedantic
+# every machine rounds alike, and the square root is the processor's
+ALIKE := -ffp-contract=off -fno-math-errno
+NATIVE := cc -O2 $(WARNINGS) $(ALIKE) -Iinclude -Imesh_files
+CHECKED := cc -g -O1 $(WARNINGS) -Werror $(ALIKE) -fsanitize=address,undefined -fno-sanitize-recover=all -Iinclude -Imesh_files
 
-build/planner/grid: planner/grid.c build/archive/libbridgeyarn.a
-	tools/x86-64-cc $@ $<
+build/planner/grid: $(GRID) $(HEADERS) tools/x86-64-cc $(LIBC) build/archive/libbridgeyarn.a
+	tools/x86-64-cc $@ $(GRID)
 
-build/planner/planner: $(PLANNER) $(HEADERS) build/archive/libbridgeyarn.a
+build/planner/planner: $(PLANNER) $(HEADERS) tools/x86-64-cc $(LIBC) build/archive/libbridgeyarn.a
 	tools/x86-64-cc $@ $(PLANNER)
 
-build/workshop/workshop: $(WORKSHOP) $(HEADERS) build/archive/libbridgeyarn.a
+build/workshop/workshop: $(WORKSHOP) $(HEADERS) tools/x86-64-cc $(LIBC) build/archive/libbridgeyarn.a
 	tools/x86-64-cc $@ $(WORKSHOP)
+
+build/bin/grid: $(GRID) $(HEADERS) | setup
+	mkdir -p build/bin
+	$(NATIVE) $(GRID) -o $@
+
+build/bin/planner: $(PLANNER) $(HEADERS) build/native/libbridgeyarn.a
+	mkdir -p build/bin
+	$(NATIVE) $(PLANNER) build/native/libbridgeyarn.a -lm -o $@
+
+build/bin/workshop: $(WORKSHOP) $(HEADERS) build/native/libbridgeyarn.a
+	mkdir -p build/bin
+	$(NATIVE) $(WORKSHOP) build/native/libbridgeyarn.a -lm -o $@
 
 build/planner/planner-checked: $(PLANNER) $(HEADERS) build/native/libbridgeyarn.a
 	mkdir -p build/planner
-	$(CHECKED) $(PLANNER) build/native/libbridgeyarn.a -o $@
+	$(CHECKED) $(PLANNER) build/native/libbridgeyarn.a -lm -o $@
 
 build/workshop/workshop-checked: $(WORKSHOP) $(HEADERS) build/native/libbridgeyarn.a
 	mkdir -p build/workshop
-	$(CHECKED) $(WORKSHOP) build/native/libbridgeyarn.a -o $@
+	$(CHECKED) $(WORKSHOP) build/native/libbridgeyarn.a -lm -o $@
+
+build/examples/first-checked: examples/first.c include/bridgeyarn.h build/native/libbridgeyarn.a
+	mkdir -p build/examples
+	$(CHECKED) $< build/native/libbridgeyarn.a -o $@
 
 build/bench/release/bench: build/native/libbridgeyarn.a $(shell find bench oracle -name '*.rs' -o -name '*.toml') | setup
 	cd bench && BRIDGEYARN_LIB=$(CURDIR)/build/native CARGO_TARGET_DIR=$(CURDIR)/build/bench cargo build --release --offline --quiet
