@@ -1,6 +1,7 @@
 /* Meshes as OBJ, STL and PLY files, triangles turned outward. The machines that run this are little-endian, as the files are. */
 #include "formats.h"
 #include "bridgeyarn.h"
+#include "messages.h"
 #include <math.h>
 #include <string.h>
 
@@ -19,13 +20,19 @@ static uint32_t number_at(const mesh *m, uint64_t t, int c)
 int write_obj(const void *what, FILE *out)
 {
     const mesh *m = what;
-    uint64_t i;
+    uint64_t triangles = m->index_count / 3, lines = m->vertex_count + triangles, i;
     fprintf(out, "# size %u, %s numbering, %lu vertices, %lu triangles\n", m->size, numbering_word(m->numbering), (unsigned long)m->vertex_count,
-            (unsigned long)m->index_count / 3);
-    for (i = 0; i < m->vertex_count && !ferror(out); i++)
+            (unsigned long)triangles);
+    for (i = 0; i < m->vertex_count && !ferror(out); i++) {
         fprintf(out, "v %.9g %.9g %.9g\n", m->coordinates[3 * i], m->coordinates[3 * i + 1], m->coordinates[3 * i + 2]);
-    for (i = 0; i < m->index_count / 3 && !ferror(out); i++)
+        if (i % PROGRESS_STEP == 0)
+            progress("writing", i, lines);
+    }
+    for (i = 0; i < triangles && !ferror(out); i++) {
         fprintf(out, "f %u %u %u\n", number_at(m, i, 0) + 1, number_at(m, i, 1) + 1, number_at(m, i, 2) + 1);
+        if (i % PROGRESS_STEP == 0)
+            progress("writing", m->vertex_count + i, lines);
+    }
     return ferror(out);
 }
 
@@ -80,6 +87,8 @@ int write_stl(const void *what, FILE *out)
     for (t = 0; t < triangles && !ferror(out); t++) {
         lay_facet(m, t, facet);
         fwrite(facet, 1, sizeof facet, out);
+        if (t % PROGRESS_STEP == 0)
+            progress("writing", t, triangles);
     }
     return ferror(out);
 }
@@ -102,6 +111,8 @@ int write_ply(const void *what, FILE *out)
             memcpy(face + 1 + 4 * c, &number, 4);
         }
         fwrite(face, 1, sizeof face, out);
+        if (t % PROGRESS_STEP == 0)
+            progress("writing", t, m->index_count / 3);
     }
     return ferror(out);
 }

@@ -47,7 +47,9 @@ int read_up_to(input *in, size_t length)
             return SYSTEM;
         got = fread(in->bytes + in->length, 1, in->room - in->length, in->stream);
         in->length += got;
+        progress("reading", in->length, length);
     }
+    progress("reading", length, length);
     return ferror(in->stream) ? cannot("read", in->name) : DONE;
 }
 

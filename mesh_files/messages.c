@@ -10,6 +10,36 @@
 #include <stdio.h>
 #include <string.h>
 #include <strings.h>
+#include <time.h>
+#include <unistd.h>
+
+/* Whether the terminal's last line says how far the work has come. */
+static int has_progress;
+
+static void clear_progress(void)
+{
+    if (has_progress)
+        fputs("\r\033[K", stderr);
+    has_progress = 0;
+}
+
+void progress(const char *doing, uint64_t done, uint64_t whole)
+{
+    static time_t start, last;
+    time_t now = time(NULL);
+    int reason = errno;
+    if (start == 0)
+        start = now;
+    if (done >= whole)
+        clear_progress();
+    else if (now > start + 1 && now != last && isatty(2)) {
+        fprintf(stderr, "\r%s: %s: %lu %%", program, doing, (unsigned long)(100 * done / whole));
+        fflush(stderr);
+        has_progress = 1;
+        last = now;
+    }
+    errno = reason;
+}
 
 /* Where a standard stream is closed, the next file that is opened would take its number, and messages would be written into a mesh. The stream is
  * then one whose use fails. */
@@ -73,6 +103,7 @@ static void say(const char *format, va_list arguments)
 int tell(int status, const char *format, ...)
 {
     va_list arguments;
+    clear_progress();
     fprintf(stderr, "%s: ", program);
     va_start(arguments, format);
     say(format, arguments);
@@ -98,6 +129,7 @@ int cannot(const char *verb, const char *name)
 int refused(uint32_t cause, uint64_t place, const char *format, ...)
 {
     va_list arguments;
+    clear_progress();
     fprintf(stderr, "%s: refused %u at %lu: ", program, cause, (unsigned long)place);
     va_start(arguments, format);
     say(format, arguments);

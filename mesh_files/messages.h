@@ -26,6 +26,11 @@ int misused(const char *format, ...);                                         /*
 int cannot(const char *verb, const char *name);                               /* SYSTEM, with the system's reason  */
 int refused(uint32_t cause, uint64_t place, const char *format, ...);         /* REFUSED, with the library's words */
 
+/* On a terminal, says how far work has come once the program has run for a second; where `done` is `whole`, the line is cleared again.
+ * errno stays. */
+void progress(const char *doing, uint64_t done, uint64_t whole);
+enum { PROGRESS_STEP = 65536 };  /* how many elements a loop goes on before it says so */
+
 /* A name for a message: control characters are shown as ?, so that a name is never more than a part of one line. Good until the next call. */
 const char *shown(const char *name);
 

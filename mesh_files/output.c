@@ -145,9 +145,12 @@ static char *part_beside(const char *path, const char *folder_name)
 
 /* ---- steps; each answers 0, or -1 with errno */
 
+/* The system is asked first: it follows no link that somebody else has put into a folder that everybody may write. */
 static int find_place(output *o, const char *name)
 {
     size_t folder;
+    if (stat(name, &o->old) != 0 && errno != ENOENT)
+        return -1;
     o->path = links_followed(name);
     if (o->path == NULL)
         return -1;
@@ -210,10 +213,17 @@ static int give_rights(const output *o, int file)
     return fchmod(file, mode) != 0 && errno != EPERM ? -1 : 0;
 }
 
+/* Some file systems have nothing to sync, and say so. */
+static int sync_file(int file)
+{
+    return fsync(file) != 0 && errno != EINVAL ? -1 : 0;
+}
+
 static int fill_part(const output *o, FILE *part, int (*body)(const void *what, FILE *out), const void *what)
 {
-    int failed = body(what, part) != 0 || ferror(part) || fflush(part) != 0 || give_rights(o, fileno(part)) != 0 || fsync(fileno(part)) != 0;
+    int failed = body(what, part) != 0 || ferror(part) || fflush(part) != 0 || give_rights(o, fileno(part)) != 0 || sync_file(fileno(part)) != 0;
     int reason = errno;
+    progress("writing", 1, 1);
     if (fclose(part) != 0 && !failed) {
         failed = 1;
         reason = errno;
@@ -233,7 +243,7 @@ static int rename_part(const output *o)
     return failed;
 }
 
-/* A folder that may be written and not read cannot be synced by itself, so that everything is. Some file systems have nothing to sync. */
+/* A folder that may be written and not read cannot be synced by itself, so that everything is. */
 static int sync_folder(const output *o)
 {
     int folder = open(o->folder, O_RDONLY | O_DIRECTORY), failed, reason;
@@ -241,11 +251,11 @@ static int sync_folder(const output *o)
         sync();
         return 0;
     }
-    failed = fsync(folder) != 0 && errno != EINVAL;
+    failed = sync_file(folder);
     reason = errno;
     close(folder);
     errno = reason;
-    return failed ? -1 : 0;
+    return failed;
 }
 
 static int wrong_kind(const char *name, mode_t mode)

@@ -43,6 +43,11 @@ static int fails(const char *name)
     return 1;
 }
 
+int stat(const char *name, struct stat *at)
+{
+    return fails("stat") ? -1 : fstatat(AT_FDCWD, name, at, 0);
+}
+
 int mkstemp(char *pattern)
 {
     int (*real)(char *) = (int (*)(char *))dlsym(RTLD_NEXT, "mkstemp");
