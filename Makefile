@@ -72,6 +72,7 @@ listing: build/listing/program $(HARNESS)
 # the planner: linked with the archive that users link, built for this machine with the checks of addresses and undefined behaviour, and as
 # `make programs` builds it, which the long tests take; the check of leaks traces the process, which not every machine allows
 planner: programs build/planner/planner build/planner/grid build/planner/planner-checked build/native/faults.so
+	tools/libc-check
 	planner/test tools/x86-64-run build/planner/planner
 	ASAN_OPTIONS=detect_leaks=0 planner/test build/planner/planner-checked
 	planner/test build/bin/planner

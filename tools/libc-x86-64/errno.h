@@ -5,9 +5,6 @@ int *__errno_location(void);
 #define EPERM 1
 #define ENOENT 2
 #define EBADF 9
-#define ENOMEM 12
-#define EACCES 13
-#define EISDIR 21
 #define EINVAL 22
 #define ENAMETOOLONG 36
 #define ELOOP 40

@@ -7,8 +7,6 @@ struct option {
     int val;
 };
 #define no_argument 0
-#define required_argument 1
 extern int optind;
-extern char *optarg;
 int getopt_long(int, char *const *, const char *, const struct option *, int *);
 #endif

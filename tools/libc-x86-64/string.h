@@ -2,7 +2,6 @@
 #define LIBC_X86_64_STRING_H
 #include <stddef.h>
 void *memcpy(void *, const void *, size_t);
-void *memmove(void *, const void *, size_t);
 int memcmp(const void *, const void *, size_t);
 void *memset(void *, int, size_t);
 int strcmp(const char *, const char *);
