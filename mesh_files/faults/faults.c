@@ -19,11 +19,12 @@ extern void *__libc_realloc(void *room, size_t size);
 static void note(const char *line)
 {
     const char *name = getenv("CALLS");
-    int file = name == NULL ? -1 : open(name, O_WRONLY | O_APPEND | O_CREAT, 0666);
+    int reason = errno, file = name == NULL ? -1 : open(name, O_WRONLY | O_APPEND | O_CREAT, 0666);
     if (file >= 0) {
         (void)!write(file, line, strlen(line));
         close(file);
     }
+    errno = reason;
 }
 
 /* Whether this call of `name` is to fail; errno is then set. */
@@ -51,8 +52,9 @@ int stat(const char *name, struct stat *at)
 int mkstemp(char *pattern)
 {
     int (*real)(char *) = (int (*)(char *))dlsym(RTLD_NEXT, "mkstemp");
-    note("mkstemp\n");
-    return fails("mkstemp") ? -1 : real(pattern);
+    int file = fails("mkstemp") ? -1 : real(pattern);
+    note(file >= 0 && file < 3 ? "mkstemp in the place of a standard stream\n" : "mkstemp\n");
+    return file;
 }
 
 FILE *fdopen(int file, const char *mode)
