@@ -1,18 +1,21 @@
 # make demo          builds the library, the planner and the workshop's program, and shows a result
+# make programs      builds build/bin/planner, build/bin/workshop and build/bin/grid for this machine's own processor
 # make test          compares with the Rust, tests the programs and the C boundary, and proves everything; its last line is the prover's count
 # make oracle N=..   compares that many small grids, and one in 5,000 as many large ones, with the Rust (SEED=.. for other grids)
 # make bench         times the library beside the Rust, counts its instructions and writes docs/BENCH.md; make bench-peers times VTK and scikit-image for it
 .DELETE_ON_ERROR:
-.PHONY: demo test bench bench-peers fuzz setup layout names evidence mutants unchanged header oracle archive listing planner workshop workshop-peers prove crate-table
+.PHONY: demo programs test examples bench bench-peers fuzz setup layout names evidence mutants unchanged header oracle archive listing planner workshop workshop-peers prove crate-table
 
 CASES ?= 1000000
 SEED ?= 1
 HARNESS := build/oracle/release/harness
 
-demo: build/planner/planner build/planner/grid build/workshop/workshop
+demo: programs
 	demo/run
 
-test: layout names unchanged header oracle archive listing planner workshop prove
+programs: build/bin/planner build/bin/workshop build/bin/grid
+
+test: layout names unchanged header oracle archive listing planner workshop examples prove
 
 setup:
 	tools/setup cc c++ cargo python3
@@ -66,16 +69,26 @@ listing: build/listing/program $(HARNESS)
 	$(HARNESS) listings build/listing/made
 	oracle/listing/run build/listing/program build/listing/made
 
-# the planner: linked with the archive that users link, and built for this machine with the checks of addresses and undefined
-# behaviour; the check of leaks traces the process, which not every machine allows
-planner: build/planner/planner build/planner/grid build/planner/planner-checked
-	planner/test build/planner/grid tools/x86-64-run build/planner/planner
-	ASAN_OPTIONS=detect_leaks=0 planner/test build/planner/grid build/planner/planner-checked
+# the planner: linked with the archive that users link, built for this machine with the checks of addresses and undefined behaviour, and as
+# `make programs` builds it, which the long tests take; the check of leaks traces the process, which not every machine allows
+planner: programs build/planner/planner build/planner/grid build/planner/planner-checked build/native/faults.so
+	tools/libc-check
+	planner/test tools/x86-64-run build/planner/planner
+	ASAN_OPTIONS=detect_leaks=0 planner/test build/planner/planner-checked
+	planner/test build/bin/planner
+	mesh_files/test planner long build/bin/planner
+	planner/test-grid tools/x86-64-run build/planner/grid
 
-# the workshop's program, linked and checked as the planner is; readers of STL, OBJ and PLY files that are installed open what it writes
-workshop: build/workshop/workshop build/workshop/workshop-checked build/planner/planner build/planner/grid
-	workshop/test build/planner/grid build/planner/planner tools/x86-64-run build/workshop/workshop
-	ASAN_OPTIONS=detect_leaks=0 workshop/test build/planner/grid build/planner/planner build/workshop/workshop-checked
+# the workshop's program, linked, checked and tested as the planner is; readers of STL, OBJ and PLY files that are installed open what it writes
+workshop: programs build/workshop/workshop build/workshop/workshop-checked build/native/faults.so
+	workshop/test tools/x86-64-run build/workshop/workshop
+	ASAN_OPTIONS=detect_leaks=0 workshop/test build/workshop/workshop-checked
+	workshop/test build/bin/workshop
+	mesh_files/test workshop long build/bin/workshop
+
+# the README's program under the checks, and the README's commands as they are printed
+examples: build/examples/first-checked programs
+	ASAN_OPTIONS=detect_leaks=0 examples/test build/examples/first-checked
 
 workshop-peers:
 	apt-get install -y -qq python3-meshio admesh
@@ -122,27 +135,55 @@ build/listing/program: $(SOURCES) $(LISTING_SOURCES) | setup
 	mkdir -p build/listing
 	cp target/bin/listing $@
 
-PLANNER := planner/planner.c $(wildcard mesh_files/*.c)
-WORKSHOP := $(wildcard workshop/*.c mesh_files/*.c)
+FILES := $(wildcard mesh_files/*.c)
+PLANNER := planner/planner.c $(FILES)
+WORKSHOP := $(wildcard workshop/*.c) $(FILES)
+GRID := planner/grid.c mesh_files/messages.c
+LIBC := $(wildcard tools/libc-x86-64/*.h tools/libc-x86-64/sys/*.h)
 HEADERS := $(wildcard include/*.h mesh_files/*.h workshop/*.h)
-CHECKED := cc -std=c99 -g -O1 -Wall -Wextra -Werror -pedantic -fsanitize=address,undefined -fno-sanitize-recover=all -Iinclude -Imesh_files
+WARNINGS := -std=c99 -Wall -Wextra -pedantic
+# every machine rounds alike, and the square root is the processor's
+ALIKE := -ffp-contract=off -fno-math-errno
+NATIVE := cc -O2 $(WARNINGS) $(ALIKE) -Iinclude -Imesh_files
+CHECKED := cc -g -O1 $(WARNINGS) -Werror $(ALIKE) -fsanitize=address,undefined -fno-sanitize-recover=all -Iinclude -Imesh_files
 
-build/planner/grid: planner/grid.c build/archive/libbridgeyarn.a
-	tools/x86-64-cc $@ $<
+build/planner/grid: $(GRID) $(HEADERS) tools/x86-64-cc $(LIBC) build/archive/libbridgeyarn.a
+	tools/x86-64-cc $@ $(GRID)
 
-build/planner/planner: $(PLANNER) $(HEADERS) build/archive/libbridgeyarn.a
+build/planner/planner: $(PLANNER) $(HEADERS) tools/x86-64-cc $(LIBC) build/archive/libbridgeyarn.a
 	tools/x86-64-cc $@ $(PLANNER)
 
-build/workshop/workshop: $(WORKSHOP) $(HEADERS) build/archive/libbridgeyarn.a
+build/workshop/workshop: $(WORKSHOP) $(HEADERS) tools/x86-64-cc $(LIBC) build/archive/libbridgeyarn.a
 	tools/x86-64-cc $@ $(WORKSHOP)
+
+build/bin/grid: $(GRID) $(HEADERS) | setup
+	mkdir -p build/bin
+	$(NATIVE) $(GRID) -o $@
+
+build/bin/planner: $(PLANNER) $(HEADERS) build/native/libbridgeyarn.a
+	mkdir -p build/bin
+	$(NATIVE) $(PLANNER) build/native/libbridgeyarn.a -lm -o $@
+
+build/bin/workshop: $(WORKSHOP) $(HEADERS) build/native/libbridgeyarn.a
+	mkdir -p build/bin
+	$(NATIVE) $(WORKSHOP) build/native/libbridgeyarn.a -lm -o $@
 
 build/planner/planner-checked: $(PLANNER) $(HEADERS) build/native/libbridgeyarn.a
 	mkdir -p build/planner
-	$(CHECKED) $(PLANNER) build/native/libbridgeyarn.a -o $@
+	$(CHECKED) $(PLANNER) build/native/libbridgeyarn.a -lm -o $@
 
 build/workshop/workshop-checked: $(WORKSHOP) $(HEADERS) build/native/libbridgeyarn.a
 	mkdir -p build/workshop
-	$(CHECKED) $(WORKSHOP) build/native/libbridgeyarn.a -o $@
+	$(CHECKED) $(WORKSHOP) build/native/libbridgeyarn.a -lm -o $@
+
+# a library that makes the system's calls fail, for the tests
+build/native/faults.so: mesh_files/faults/faults.c | setup
+	mkdir -p build/native
+	cc -std=c99 -O1 -Wall -Wextra -fPIC -shared $< -o $@ -ldl
+
+build/examples/first-checked: examples/first.c include/bridgeyarn.h build/native/libbridgeyarn.a
+	mkdir -p build/examples
+	$(CHECKED) $< build/native/libbridgeyarn.a -o $@
 
 build/bench/release/bench: build/native/libbridgeyarn.a $(shell find bench oracle -name '*.rs' -o -name '*.toml') | setup
 	cd bench && BRIDGEYARN_LIB=$(CURDIR)/build/native CARGO_TARGET_DIR=$(CURDIR)/build/bench cargo build --release --offline --quiet

@@ -11,6 +11,8 @@
 #include <stddef.h>
 #include <stdint.h>
 
+#define BRIDGEYARN_VERSION "0.1.0"
+
 #ifdef __cplusplus
 extern "C" {
 #endif
@@ -32,6 +34,13 @@ extern "C" {
 
 #define BRIDGEYARN_CRATE 0u   /* numbering: as isosurface 0.0.4 gives it, bit for bit                */
 #define BRIDGEYARN_JOINED 1u  /* numbering: one vertex for each grid edge whose ends differ in sign  */
+
+#define BRIDGEYARN_LEAST_SIZE 2u
+#define BRIDGEYARN_MOST_SIZE 128u
+
+/* Counts of elements for a size n that is taken: the samples of its grid, and the words of working memory. */
+#define BRIDGEYARN_SAMPLES(n) ((size_t)(n) * (n) * ((n) + 1u))
+#define BRIDGEYARN_WORK(n) (8u * (size_t)(n) * (n) + 6u * (size_t)(n))
 
 typedef struct {
     uint32_t cause;
@@ -90,6 +99,8 @@ bridgeyarn_edge_answer bridgeyarn_edge(float a, float b);
  * Five little-endian u32: version 1, size n, numbering (0 crate, 1 joined), sample count n * n * (n + 1), and the byte place of the samples,
  * always 20; then the samples as little-endian f32, and nothing after them. */
 
+#define BRIDGEYARN_RECORD_HEADER 20u  /* bytes before the samples */
+
 typedef struct {
     uint32_t cause;      /* 0, BAD_SIZE, BAD_NUMBERING, BAD_COUNT or BAD_RECORD */
     uint64_t place;      /* after BAD_RECORD: the byte place                    */
@@ -109,6 +120,9 @@ bridgeyarn_record_answer bridgeyarn_record(const uint8_t *bytes, size_t length);
  * multiple of three, and byte place of the indices, 28 + 12 * V; then the vertices, three little-endian f32 each, all finite; then the indices as
  * little-endian u32, each below V; and nothing after them: the length is 28 + 12 * V + 4 * I. Two records of one mesh are the same bytes, and
  * coordinates keep their bits, both zeros and subnormal values too. Definitions: recordBytes and Good, crates/mesh_record/specs/Mesh.antt. */
+
+#define BRIDGEYARN_MESH_VERSION 1u
+#define BRIDGEYARN_MESH_HEADER 28u  /* bytes before the vertices */
 
 typedef struct {
     uint32_t cause;  /* 0, BAD_SIZE, BAD_NUMBERING, BAD_RECORD or SHORT_OUTPUT                  */

@@ -14,7 +14,7 @@ typedef struct {
 
 const char *numbering_word(uint32_t numbering);
 
-/* Bodies for write_whole; `what` is a mesh, and the answer 0. The corners of a triangle run counterclockwise as seen from outside, where the
+/* Bodies for write_whole; `what` is a mesh. Each ends early where a write fails, so that errno has the reason. The corners of a triangle run counterclockwise as seen from outside, where the
  * samples are over 0: so these files have it, and a mesh has the second and the third corner the other way round. */
 int write_obj(const void *what, FILE *out);  /* Wavefront OBJ                            */
 int write_stl(const void *what, FILE *out);  /* binary STL, a unit normal each triangle  */

@@ -1,13 +1,22 @@
-/* Writes a sample record to standard output, so that there is something to run the planner on.
- *
- *     grid SURFACE SIZE NUMBERING [nan] > RECORD
- *
- * SURFACE is sphere, gyroid, boxes or cushion; SIZE is 2 to 128; NUMBERING is 0 (crate) or 1 (joined), and any other word is written as it is. With
- * nan, the sample in the middle is not a number. Exit status: 0 done, 2 wrong usage, 3 the record could not be written. */
-#include <stdint.h>
+/* Writes a sample record to standard output, so that there is something to run the planner on. */
+#include "bridgeyarn.h"
+#include "messages.h"
+#include <getopt.h>
 #include <stdio.h>
 #include <stdlib.h>
 #include <string.h>
+
+const char program[] = "grid";
+const char help[] =
+    "usage: grid SURFACE SIZE NUMBERING [nan] > RECORD\n"
+    "Writes the sample record of a surface to standard output, for the planner.\n"
+    "SURFACE is sphere, gyroid, boxes or cushion; NUMBERING is 0 (crate) or 1 (joined), and any other number is written as it\n"
+    "is, for tests. With nan, the sample in the middle is not a number.\n"
+    "\n"
+    "  --help     prints this\n"
+    "  --version  prints the version\n"
+    "\n"
+    "Exit status: 0 the record is written; 2 wrong usage; 3 the record could not be written.\n";
 
 static float absolute(float v)
 {
@@ -60,46 +69,67 @@ static float cushion(float x, float y, float z)
     return larger(block, x < 0.55f ? larger(head, neck) : head);
 }
 
-static float sample(const char *surface, float x, float y, float z)
+typedef float (*surface)(float x, float y, float z);
+
+static surface surface_of(const char *name)
 {
-    if (strcmp(surface, "sphere") == 0)
-        return sphere(x, y, z);
-    if (strcmp(surface, "gyroid") == 0)
-        return gyroid(x, y, z);
-    if (strcmp(surface, "cushion") == 0)
-        return cushion(x, y, z);
-    return boxes(x, y, z);
+    if (strcmp(name, "sphere") == 0)
+        return sphere;
+    if (strcmp(name, "gyroid") == 0)
+        return gyroid;
+    if (strcmp(name, "boxes") == 0)
+        return boxes;
+    return strcmp(name, "cushion") == 0 ? cushion : NULL;
 }
 
-static int known(const char *surface)
+/* The number that the whole word is, or more than any number that is taken. */
+static unsigned long number_of(const char *word)
 {
-    return strcmp(surface, "sphere") == 0 || strcmp(surface, "gyroid") == 0 || strcmp(surface, "boxes") == 0 || strcmp(surface, "cushion") == 0;
+    char *end;
+    unsigned long number = strtoul(word, &end, 10);
+    return word[0] < '0' || word[0] > '9' || *end != '\0' || number > 0xFFFFFFFFul ? ~0ul : number;
+}
+
+static void write_record(surface f, uint32_t n, uint32_t numbering, int with_nan)
+{
+    uint32_t count = (uint32_t)BRIDGEYARN_SAMPLES(n), header[5], x, y, z;
+    float h = 1.0f / (float)(n - 1), value;
+    header[0] = 1;
+    header[1] = n;
+    header[2] = numbering;
+    header[3] = count;
+    header[4] = BRIDGEYARN_RECORD_HEADER;
+    fwrite(header, 4, 5, stdout);
+    for (z = 0; z <= n && !ferror(stdout); z++)
+        for (y = 0; y < n; y++)
+            for (x = 0; x < n; x++) {
+                value = f((float)x * h, (float)y * h, (float)z * h);
+                if (with_nan && (z * n + y) * n + x == count / 2)
+                    memset(&value, 0xFF, sizeof value);
+                fwrite(&value, 4, 1, stdout);
+            }
 }
 
 int main(int count, char **words)
 {
-    uint32_t header[5], n, x, y, z, bad;
-    float h, value;
-    n = count >= 4 ? (uint32_t)strtoul(words[2], NULL, 10) : 0;
-    if (n < 2 || n > 128 || !known(words[1]) || count > 5 || (count == 5 && strcmp(words[4], "nan") != 0)) {
-        fprintf(stderr, "usage: grid sphere|gyroid|boxes|cushion SIZE NUMBERING [nan] > RECORD\n");
-        return 2;
-    }
-    header[0] = 1;
-    header[1] = n;
-    header[2] = (uint32_t)strtoul(words[3], NULL, 10);
-    header[3] = n * n * (n + 1);
-    header[4] = 20;
-    bad = count == 5 ? header[3] / 2 : header[3];
-    h = 1.0f / (float)(n - 1);
-    fwrite(header, 4, 5, stdout);
-    for (z = 0; z <= n; z++)
-        for (y = 0; y < n; y++)
-            for (x = 0; x < n; x++) {
-                value = sample(words[1], (float)x * h, (float)y * h, (float)z * h);
-                if ((z * n + y) * n + x == bad)
-                    memset(&value, 0xFF, sizeof value);
-                fwrite(&value, 4, 1, stdout);
-            }
-    return fflush(stdout) == 0 && !ferror(stdout) ? 0 : 3;
+    unsigned long n, numbering;
+    int status;
+    begin();
+    status = take_options(count, words, NULL);
+    if (status >= 0)
+        return finish(status);
+    count -= optind;
+    words += optind;
+    if (count < 3 || count > 4 || (count == 4 && strcmp(words[3], "nan") != 0))
+        return finish(misused("SURFACE, SIZE and NUMBERING are wanted, and nan after them or nothing"));
+    if (surface_of(words[0]) == NULL)
+        return finish(misused("surface %s: sphere, gyroid, boxes and cushion are there", shown(words[0])));
+    n = number_of(words[1]);
+    numbering = number_of(words[2]);
+    if (n < BRIDGEYARN_LEAST_SIZE || n > BRIDGEYARN_MOST_SIZE)
+        return finish(misused("size %s: %u to %u are taken", shown(words[1]), BRIDGEYARN_LEAST_SIZE, BRIDGEYARN_MOST_SIZE));
+    if (numbering > 0xFFFFFFFFul)
+        return finish(misused("numbering %s: 0 (crate) and 1 (joined) are taken", shown(words[2])));
+    write_record(surface_of(words[0]), (uint32_t)n, (uint32_t)numbering, count == 4);
+    return finish(DONE);
 }

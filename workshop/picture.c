@@ -2,6 +2,7 @@
  * first. The outer side is blue; where the surface is open, its inner side shows in brown. */
 #include "picture.h"
 #include "formats.h"
+#include "messages.h"
 #include <stdlib.h>
 
 /* In tenths of a unit of the picture. */
@@ -121,9 +122,13 @@ int write_svg(const void *what, FILE *out)
     fprintf(out, "<svg xmlns=\"http://www.w3.org/2000/svg\" viewBox=\"0 0 %d %d\" width=\"%d\" height=\"%d\">\n", WIDTH, f.height, WIDTH / 10, f.height / 10);
     fprintf(out, "<title>size %u, %s numbering, %lu triangles</title>\n", m->size, numbering_word(m->numbering), (unsigned long)triangles);
     fprintf(out, "<g fill=\"currentColor\" stroke=\"currentColor\" stroke-width=\"4\" stroke-linejoin=\"round\">\n");
-    for (i = 0; i < triangles; i++)
+    for (i = 0; i < triangles && !ferror(out); i++) {
         write_triangle(m, &f, order[i].triangle, out);
-    fprintf(out, "</g>\n</svg>\n");
+        if (i % PROGRESS_STEP == 0)
+            progress("writing", i, triangles);
+    }
+    if (!ferror(out))
+        fprintf(out, "</g>\n</svg>\n");
     free(order);
-    return 0;
+    return ferror(out);
 }

@@ -4,7 +4,7 @@
 
 #include <stdio.h>
 
-/* A body for write_whole; `what` is a mesh. The answer is 0, or 1 where memory is short. */
+/* A body for write_whole; `what` is a mesh. */
 int write_svg(const void *what, FILE *out);
 
 #endif

@@ -1,18 +1,29 @@
-/* The workshop's program: reads a mesh record, says what it holds, and writes it for other programs.
- *
- *     workshop MESH [OUT..]
- *
- * An OUT ends in .stl (binary STL), .obj (Wavefront OBJ), .ply (binary PLY) or .svg (a picture that any browser shows). A refusal is told in
- * plain words with the byte place, and no OUT is then touched; each is written under another name and renamed when it is whole. Exit status: 0
- * done, 1 refused, 2 wrong usage, 3 a file or memory could not be had. */
+/* The workshop's program: reads a mesh record, says what it holds, and writes it for other programs. What it takes, says and leaves is in the text
+ * of --help, below. */
 #include "bridgeyarn.h"
-#include "files.h"
 #include "formats.h"
+#include "input.h"
+#include "messages.h"
+#include "output.h"
 #include "picture.h"
-#include <stdlib.h>
+#include "records.h"
+#include <getopt.h>
 #include <string.h>
 
 const char program[] = "workshop";
+const char help[] =
+    "usage: workshop [--allow-empty] MESH [OUT..]\n"
+    "Reads the mesh record MESH (- is standard input), says what it holds, and writes it to each OUT in the form that its\n"
+    "ending names: .stl (binary STL), .obj (Wavefront OBJ), .ply (binary PLY) or .svg (a picture that any browser shows).\n"
+    "\n"
+    "  --allow-empty  writes a mesh without a triangle too\n"
+    "  --help         prints this\n"
+    "  --version      prints the version\n"
+    "  --             ends the options, so that a name may begin with a dash\n"
+    "\n"
+    "Exit status: 0 done; 1 the record is refused; 2 wrong usage; 3 a file or memory could not be had, or a message not be\n"
+    "written; 4 the mesh is empty and there is an OUT. After 1, 2 and 4 every OUT is as it was; after 3 each is as it was,\n"
+    "or whole and new, as was said. Records are described in bridgeyarn.h.\n";
 
 typedef int (*writer)(const void *what, FILE *out);
 
@@ -25,29 +36,6 @@ static writer writer_of(const char *name)
     if (ends_in(name, ".ply"))
         return write_ply;
     return ends_in(name, ".svg") ? write_svg : NULL;
-}
-
-/* Asks for the room with none, makes it, and asks again. */
-static int take_mesh(const uint8_t *bytes, size_t length, mesh *m)
-{
-    const char *bad_record = "the file is no mesh record: the field, the vertex or the index at that byte is wrong, or the file ends early or late";
-    bridgeyarn_read_answer room = bridgeyarn_mesh_read(bytes, length, NULL, 0, NULL, 0), answer;
-    if (room.cause != BRIDGEYARN_DONE && room.cause != BRIDGEYARN_SHORT_OUTPUT)
-        return refused(room.cause, room.place, bad_record);
-    m->coordinates = malloc(12 * room.vertices + 1);
-    m->indices = malloc(4 * room.indices + 1);
-    if (m->coordinates == NULL || m->indices == NULL)
-        return system_failed("no memory for", "the mesh");
-    answer = bridgeyarn_mesh_read(bytes, length, m->coordinates, 3 * room.vertices, m->indices, room.indices);
-    if (answer.cause != BRIDGEYARN_DONE)
-        return refused(answer.cause, answer.place, bad_record);
-    if (answer.vertices != room.vertices || answer.indices != room.indices)
-        return system_failed("two answers differ on", "the mesh");
-    m->vertex_count = answer.vertices;
-    m->index_count = answer.indices;
-    m->size = answer.size;
-    m->numbering = answer.numbering;
-    return DONE;
 }
 
 static void show_axis(const mesh *m, int axis)
@@ -67,7 +55,7 @@ static void show_axis(const mesh *m, int axis)
 static void show(const char *name, const mesh *m)
 {
     int axis;
-    printf("workshop: %s: size %u, %s numbering: V = %lu, I = %lu, %lu triangles\n", name, m->size, numbering_word(m->numbering),
+    printf("workshop: %s: size %u, %s numbering: V = %lu, I = %lu, %lu triangles\n", shown(name), m->size, numbering_word(m->numbering),
            (unsigned long)m->vertex_count, (unsigned long)m->index_count, (unsigned long)m->index_count / 3);
     if (m->vertex_count == 0) {
         printf("workshop: no vertex, so no bounding box\n");
@@ -78,47 +66,52 @@ static void show(const char *name, const mesh *m)
         show_axis(m, axis);
 }
 
-static int work(int count, char **words, uint8_t **bytes, mesh *m)
+static int judge_names(const input *in, int count, char **names)
 {
-    const size_t most = 28u + 16u * (size_t)31211520; /* size 128, as many vertices as indices */
-    size_t length = 0;
-    int i, status = read_whole(words[1], most, bytes, &length);
+    int i;
+    for (i = 0; i < count; i++)
+        if (is_same_file(in, names[i]))
+            return misused("%s is the record itself, which would be lost", shown(names[i]));
+    return DONE;
+}
+
+static int work(input *in, mesh *m, const char *record, int count, char **names, int allow_empty)
+{
+    int i, status = open_input(record, in);
     if (status == DONE)
-        status = take_mesh(*bytes, length, m);
+        status = judge_names(in, count, names);
     if (status == DONE)
-        show(words[1], m);
-    for (i = 2; i < count && status == DONE; i++) {
-        status = write_whole(words[i], writer_of(words[i]), m);
+        status = take_mesh(in, m);
+    if (status == DONE)
+        show(in->name, m);
+    if (status == DONE && count > 0 && m->index_count == 0 && !allow_empty)
+        status = tell(EMPTY, "the mesh is empty; nothing is written (--allow-empty writes it)");
+    for (i = 0; i < count && status == DONE; i++) {
+        status = write_whole(names[i], writer_of(names[i]), m);
         if (status == DONE)
-            printf("workshop: written to %s\n", words[i]);
+            printf("workshop: written to %s\n", shown(names[i]));
     }
     return status;
 }
 
-static int usage(void)
-{
-    fprintf(stderr, "usage: workshop MESH [OUT..]\n"
-                    "Reads a mesh record (include/bridgeyarn.h) and says what it holds. Each OUT ends in .stl, .obj, .ply or .svg, and the mesh is written\n"
-                    "to it in that form. Exit status: 0 done, 1 refused (no OUT is then touched), 2 usage, 3 a file or memory could not be had.\n");
-    return USAGE;
-}
-
 int main(int count, char **words)
 {
-    uint8_t *bytes = NULL;
+    input in;
     mesh m;
-    int i, status;
-    if (count < 2)
-        return usage();
-    for (i = 2; i < count; i++)
-        if (writer_of(words[i]) == NULL) {
-            fprintf(stderr, "workshop: the ending of %s is not .stl, .obj, .ply or .svg\n", words[i]);
-            return usage();
-        }
+    int i, allow_empty = 0, status;
+    begin();
+    status = take_options(count, words, &allow_empty);
+    if (status >= 0)
+        return finish(status);
+    if (count - optind < 1)
+        return finish(misused("MESH is wanted, and no name is there"));
+    for (i = optind + 1; i < count; i++)
+        if (writer_of(words[i]) == NULL)
+            return finish(misused("the ending of %s is not .stl, .obj, .ply or .svg", shown(words[i])));
+    memset(&in, 0, sizeof in);
     memset(&m, 0, sizeof m);
-    status = work(count, words, &bytes, &m);
-    free(bytes);
-    free(m.coordinates);
-    free(m.indices);
-    return status;
+    status = work(&in, &m, words[optind], count - optind - 1, words + optind + 1, allow_empty);
+    close_input(&in);
+    free_mesh(&m);
+    return finish(status);
 }

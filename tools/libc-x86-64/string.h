@@ -6,4 +6,6 @@ int memcmp(const void *, const void *, size_t);
 void *memset(void *, int, size_t);
 int strcmp(const char *, const char *);
 size_t strlen(const char *);
+char *strrchr(const char *, int);
+char *strerror(int);
 #endif
