@@ -2,7 +2,7 @@
 ghost use Rattle.std.specs.Prelude.{◌≡◌};
 ghost use Rattle.mesh_read.specs.Reading.{reading};
 ghost use Rattle.mesh_read.specs.Reading.{left as Reading·left};
-ghost use Rattle.mesh_write.specs.Writing.{meshOf, left, writing};
+ghost use Rattle.mesh_write.specs.Writing.{mesh_of, left, writing};
 
 use mesh_read::ReadAnswer;
 use mesh_write::WriteAnswer;
@@ -18,7 +18,7 @@ pub extern "C" fn bridgeyarn_mesh_write(
     out: &mut [u8],
 ) -> WriteAnswer
     ensures { left result out.new
-        ≡ writing version (meshOf size numbering coordinates.now indices.now) out.old }
+        ≡ writing version (mesh_of size numbering coordinates.now indices.now) out.old }
 {
     mesh_write::write_mesh(version, size, numbering, coordinates, indices, out)
 }

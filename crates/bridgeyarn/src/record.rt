@@ -1,7 +1,7 @@
 // The answer about a sample record.
 ghost use Rattle.std.specs.Prelude.{◌≡◌};
-ghost use Rattle.sample_record.specs.Record.{recordOf};
-ghost use Rattle.record_answer.specs.Record.{recordAnswer};
+ghost use Rattle.sample_record.specs.Record.{record_of};
+ghost use Rattle.record_answer.specs.Record.{record_answer};
 
 use record_answer::RecordAnswer;
 
@@ -9,7 +9,7 @@ use record_answer::RecordAnswer;
 // sizes to 128. The bytes are only read.
 #[unsafe(no_mangle)]
 pub extern "C" fn bridgeyarn_record(bytes: &[u8]) -> RecordAnswer
-    ensures { result ≡ recordAnswer (recordOf 128 bytes.now) }
+    ensures { result ≡ record_answer (record_of 128 bytes.now) }
 {
     record_answer::record_answer(bytes, 128)
 }

@@ -8,8 +8,8 @@ use lib.Count.{count_leading_zeros}
 use lib.IntN.{pos, negsuc}
 use lib.ListN.{length, replicate, set}
 use lib.Ieee.{Float, nan, fin, binary32, of_bits, le, eq, neg, add, sub, mul, div, of_int}
-use Rattle.marching_cubes_tables.specs.Tables.{corners, edgeConnection, triangleConnection}
-use Rattle.marching_cubes_tables.specs.Rule.{rowEdges}
+use Rattle.marching_cubes_tables.specs.Tables.{corners, edge_connection, triangle_connection}
+use Rattle.marching_cubes_tables.specs.Rule.{row_edges}
 use Rattle.marching_cubes_impl.specs.Sample.{nought, half, one, inside, good}
 use Rattle.marching_cubes_impl.specs.declared.Cell.{Cell}
 use Rattle.marching_cubes_impl.specs.declared.edge.Crossing.{Crossing}
@@ -21,55 +21,55 @@ use Rattle.morton.specs.declared.Number.{Number}
 use Rattle.morton.specs.declared.Number.TheVariants as number
 use Rattle.morton_cells.specs.declared.Point.{Point}
 use Rattle.morton_cells.specs.declared.Point.TheVariants as point
-use Rattle.morton.specs.Key.{top_bit, good as goodKey, levelIn}
+use Rattle.morton.specs.Key.{top_bit, good as good_key, level_in}
 use Rattle.morton_sums.specs.Interleaved.{thirds, spread}
-use Rattle.morton.specs.Answer.{levelOf, parent_of}
-use Rattle.morton_cells.specs.Cell.{centerOf}
-use Rattle.positions.specs.Position.{step_of, cornerOf, position_of}
-use Rattle.walk.specs.Walk.{signs, cellEdges, times, cell, cells, rows, walk}
-use Rattle.walk.specs.Edges.{axisOf, lowOffset, edge_of, same}
-use Rattle.walk.specs.Cache.{fresh, stored, putColumn, getColumn, inLayer, put, found, get, advanceCell, advanceRow, advanceLayer}
+use Rattle.morton.specs.Answer.{level_of, parent_of}
+use Rattle.morton_cells.specs.Cell.{center_of}
+use Rattle.positions.specs.Position.{step_of, corner_of, position_of}
+use Rattle.walk.specs.Walk.{signs, cell_edges, times, cell, cells, rows, walk}
+use Rattle.walk.specs.Edges.{axis_of, low_offset, edge_of, same}
+use Rattle.walk.specs.Cache.{fresh, stored, put_column, get_column, in_layer, put, found, get, advance_cell, advance_row, advance_layer}
 use Rattle.walk.specs.Numbering.{choose, hooks, mesh, number, joined, crate}
-use Rattle.lent_mesh.specs.Grid.{positionAt, floatsOf}
-use Rattle.sample_check.specs.Samples.{lowestBad}
-use Rattle.outcome.specs.Outcome.{Outcome, surfaceOf, filled, outcome}
+use Rattle.lent_mesh.specs.Grid.{position_at, floats_of}
+use Rattle.sample_check.specs.Samples.{lowest_bad}
+use Rattle.outcome.specs.Outcome.{Outcome, surface_of, filled, outcome}
 
 -- what is asked: of the whole call by size, numbering and samples, of one cell, of one edge, for the bare offset, or of a key
 data Case : Type 0 where
   grid : ℕ → ℕ → List Float → Case
-  oneCell : List Float → Case
+  one_cell : List Float → Case
   edge : Float → Float → Case
   offset : Float → Float → Case
   level parent center : ℕ → Case
 
 data Answer : Type 0 where
-  isOutcome : Outcome → Answer
-  isCell : Cell → Answer
-  isCrossing : Crossing → Answer
-  isOffset : Float → Answer
+  is_outcome : Outcome → Answer
+  is_cell : Cell → Answer
+  is_crossing : Crossing → Answer
+  is_offset : Float → Answer
   is_number : Number → Answer
-  isPoint : Point → Answer
+  is_point : Point → Answer
 
-abbrev oldWork : List ℕ
-oldWork = replicate 46 7
+abbrev old_work : List ℕ
+old_work = replicate 46 7
 
-abbrev oldVertices : List Float
-oldVertices = replicate 18 half
+abbrev old_vertices : List Float
+old_vertices = replicate 18 half
 
-abbrev oldIndices : List ℕ
-oldIndices = replicate 7 9
+abbrev old_indices : List ℕ
+old_indices = replicate 7 9
 
 abbrev answer : Case → Answer
-answer (grid size numbering samples) = isOutcome (outcome size numbering samples oldWork oldVertices oldIndices)
-answer (oneCell values) = isCell (cell_of values)
-answer (edge a b) = isCrossing (crossing_of a b)
-answer (offset a b) = isOffset (offset_of a b)
-answer (level key) = is_number (levelOf key)
+answer (grid size numbering samples) = is_outcome (outcome size numbering samples old_work old_vertices old_indices)
+answer (one_cell values) = is_cell (cell_of values)
+answer (edge a b) = is_crossing (crossing_of a b)
+answer (offset a b) = is_offset (offset_of a b)
+answer (level key) = is_number (level_of key)
 answer (parent key) = is_number (parent_of key)
-answer (center key) = isPoint (centerOf key)
+answer (center key) = is_point (center_of key)
 
-abbrev minusOne : Float
-minusOne = fin true 1 (pos 0)
+abbrev minus_one : Float
+minus_one = fin true 1 (pos 0)
 
 abbrev two : Float
 two = fin false 1 (pos 1)
@@ -84,7 +84,7 @@ but numbering place v = grid 2 numbering (set (replicate 12 one) place v)
 -- done: the first 3V floats and I indices, the rest as it was, the working memory that the size asks for zero
 abbrev done : ℕ → List Float → List ℕ → Answer
 done v floats list =
-    isOutcome (record {
+    is_outcome (record {
       answer = record { cause = 0; place = 0; vertices = v; indices = length list };
       work = replicate 44 0 ++ (7 ∷ 7 ∷ []);
       vertices = floats ++ replicate (18 - 3 * v) half;
@@ -93,11 +93,11 @@ done v floats list =
 
 abbrev refused : ℕ → ℕ → Answer
 refused cause place =
-    isOutcome (record { answer = record { cause = cause; place = place; vertices = 0; indices = 0 }; work = oldWork; vertices = oldVertices; indices = oldIndices })
+    is_outcome (record { answer = record { cause = cause; place = place; vertices = 0; indices = 0 }; work = old_work; vertices = old_vertices; indices = old_indices })
 
 -- 1.5
-abbrev oneAndHalf : Float
-oneAndHalf = fin false 3 (negsuc 0)
+abbrev one_and_half : Float
+one_and_half = fin false 3 (negsuc 0)
 
 -- the vertices of W3, and of W4 and W5
 abbrev corner : List Float
@@ -111,21 +111,21 @@ cases : map answer (
     grid 2 0 (replicate 12 one) ∷
     grid 2 1 (replicate 12 one) ∷
     -- W2
-    grid 2 0 (replicate 12 minusOne) ∷
-    grid 2 1 (replicate 12 minusOne) ∷
+    grid 2 0 (replicate 12 minus_one) ∷
+    grid 2 1 (replicate 12 minus_one) ∷
     -- W3
-    but 0 0 minusOne ∷
-    but 1 0 minusOne ∷
+    but 0 0 minus_one ∷
+    but 1 0 minus_one ∷
     -- W4, W5
-    but 1 4 minusOne ∷
-    but 0 4 minusOne ∷
+    but 1 4 minus_one ∷
+    but 0 4 minus_one ∷
     -- W6
     but 0 0 nought ∷
     but 1 0 nought ∷
     -- W7
-    oneCell (replicate 8 nan) ∷
+    one_cell (replicate 8 nan) ∷
     -- W8
-    edge minusOne (fin false 3 (pos 0)) ∷
+    edge minus_one (fin false 3 (pos 0)) ∷
     offset two two ∷
     -- W9
     level 8 ∷
@@ -143,19 +143,19 @@ cases : map answer (
     done 0 [] [] ∷
     done 3 corner (0 ∷ 1 ∷ 2 ∷ []) ∷
     done 3 corner (0 ∷ 1 ∷ 2 ∷ []) ∷
-    done 4 (waist ++ (nought ∷ nought ∷ oneAndHalf ∷ [])) (0 ∷ 1 ∷ 2 ∷ 0 ∷ 3 ∷ 1 ∷ []) ∷
-    done 5 (waist ++ (half ∷ nought ∷ one ∷ nought ∷ nought ∷ oneAndHalf ∷ [])) (0 ∷ 1 ∷ 2 ∷ 3 ∷ 4 ∷ 1 ∷ []) ∷
+    done 4 (waist ++ (nought ∷ nought ∷ one_and_half ∷ [])) (0 ∷ 1 ∷ 2 ∷ 0 ∷ 3 ∷ 1 ∷ []) ∷
+    done 5 (waist ++ (half ∷ nought ∷ one ∷ nought ∷ nought ∷ one_and_half ∷ [])) (0 ∷ 1 ∷ 2 ∷ 3 ∷ 4 ∷ 1 ∷ []) ∷
     done 3 (replicate 9 nought) (0 ∷ 1 ∷ 2 ∷ []) ∷
     done 3 (replicate 9 nought) (0 ∷ 1 ∷ 2 ∷ []) ∷
-    isCell (record { signs = 0; edges = replicate 16 (negsuc 0) }) ∷
-    isCrossing (At quarter) ∷
-    isOffset half ∷
+    is_cell (record { signs = 0; edges = replicate 16 (negsuc 0) }) ∷
+    is_crossing (At quarter) ∷
+    is_offset half ∷
     is_number (number.Is 1) ∷
     is_number (number.Is 1) ∷
-    isPoint (point.At (record { x = quarter; y = quarter; z = quarter })) ∷
+    is_point (point.At (record { x = quarter; y = quarter; z = quarter })) ∷
     refused 1 0 ∷
     done 0 [] [] ∷
     refused 5 3 ∷
     []
-unfolding crosses top_bit goodKey levelIn thirds spread count_leading_zeros outcome filled surfaceOf lowestBad good inside le of_bits mesh walk rows cells cell times signs cellEdges rowEdges triangleConnection corners edgeConnection hooks choose joined crate number same edge_of axisOf lowOffset fresh stored putColumn getColumn inLayer put found get advanceCell advanceRow advanceLayer positionAt position_of floatsOf step_of cornerOf offset_of between eq neg add sub mul div of_int
+unfolding crosses top_bit good_key level_in thirds spread count_leading_zeros outcome filled surface_of lowest_bad good inside le of_bits mesh walk rows cells cell times signs cell_edges row_edges triangle_connection corners edge_connection hooks choose joined crate number same edge_of axis_of low_offset fresh stored put_column get_column in_layer put found get advance_cell advance_row advance_layer position_at position_of floats_of step_of corner_of offset_of between eq neg add sub mul div of_int
 cases = refl

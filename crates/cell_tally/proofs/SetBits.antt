@@ -10,11 +10,11 @@ use lib.Dec.{eqb}
 use Rattle.marching_cubes_tables.specs.Rule.{bit_at}
 use Rattle.walk.specs.Walk.{bit}
 use Rattle.sign_words.specs.Words.{word_of}
-use Rattle.sign_words.proofs.Words.{wordOf-lt, wordOf-of-bits}
+use Rattle.sign_words.proofs.Words.{word_of-lt, word_of-of-bits}
 use Rattle.sign_words.proofs.OneBit.{and-bit, xor-bit}
 use Rattle.corner_signs.specs.Signs.{differ}
-use Rattle.cell_tally.specs.Tally.{total, is_set, inMask, setIn}
-use Rattle.cell_tally.proofs.Sums.{total-same, inMask-same}
+use Rattle.cell_tally.specs.Tally.{total, is_set, in_mask, set_in}
+use Rattle.cell_tally.proofs.Sums.{total-same, in_mask-same}
 
 -- ---- one bit
 
@@ -23,8 +23,8 @@ small zero h = refl
 small (suc zero) h = refl
 small (suc (suc x)) h = absurd (omega arith)
 
-pub isSet-bit : (w i : ℕ) → bit_at w i ≡ bit (is_set w i)
-isSet-bit w i = small (bit_at w i) (mod-lt _ (omega arith))
+pub is_set-bit : (w i : ℕ) → bit_at w i ≡ bit (is_set w i)
+is_set-bit w i = small (bit_at w i) (mod-lt _ (omega arith))
 
 pub bit-set : (b : Bool) → eqb (bit b) 1 ≡ b
 bit-set true = refl
@@ -32,11 +32,11 @@ bit-set false = refl
 
 pub and_set : (a b i : ℕ) → is_set (bit_and a b) i ≡ (is_set a i && is_set b i)
 and_set a b i =
-    ap (λ (x : ℕ). eqb x 1) (and-bit a b i (is_set a i) (is_set b i) (isSet-bit a i) (isSet-bit b i)) ∙ bit-set (is_set a i && is_set b i)
+    ap (λ (x : ℕ). eqb x 1) (and-bit a b i (is_set a i) (is_set b i) (is_set-bit a i) (is_set-bit b i)) ∙ bit-set (is_set a i && is_set b i)
 
 pub xor-set : (a b i : ℕ) → is_set (bit_xor a b) i ≡ differ (is_set a i) (is_set b i)
 xor-set a b i =
-    ap (λ (x : ℕ). eqb x 1) (xor-bit a b i (is_set a i) (is_set b i) (isSet-bit a i) (isSet-bit b i)) ∙ each (is_set a i) (is_set b i)
+    ap (λ (x : ℕ). eqb x 1) (xor-bit a b i (is_set a i) (is_set b i) (is_set-bit a i) (is_set-bit b i)) ∙ each (is_set a i) (is_set b i)
   where
     each : (p q : Bool) → eqb (bit_xor (bit p) (bit q)) 1 ≡ differ p q
     each true true = refl
@@ -51,22 +51,22 @@ unfolding ones ones_in
 ones_bit true = refl
 ones_bit false = refl
 
-ones-wordOf : (f : ℕ → Bool) (k : ℕ) → ones (word_of f k) ≡ total (λ i. bit (f i)) k
+ones-word_of : (f : ℕ → Bool) (k : ℕ) → ones (word_of f k) ≡ total (λ i. bit (f i)) k
 unfolding total word_of ones ones_in
-ones-wordOf f zero = refl
-ones-wordOf f (suc k) =
+ones-word_of f zero = refl
+ones-word_of f (suc k) =
     ap ones (add_comm (word_of f k) (bit (f k) * 2 ^ k))
-    ∙ ones_cat k (bit (f k)) (word_of f k) (wordOf-lt f k)
-    ∙ ap₂ ◌+◌ (ones_bit (f k)) (ones-wordOf f k)
+    ∙ ones_cat k (bit (f k)) (word_of f k) (word_of-lt f k)
+    ∙ ap₂ ◌+◌ (ones_bit (f k)) (ones-word_of f k)
     ∙ add_comm (bit (f k)) (total (λ i. bit (f i)) k)
 
-pub ones-in : (word mask : ℕ) → word < 2 ^ 32 → mask < 2 ^ 32 → ones (bit_and word mask) ≡ setIn word mask
+pub ones-in : (word mask : ℕ) → word < 2 ^ 32 → mask < 2 ^ 32 → ones (bit_and word mask) ≡ set_in word mask
 ones-in word mask a b =
     ap ones
     (sym (mod-eq_of_lt (and_lt 32 word mask a b))
-    ∙ wordOf-of-bits (bit_and word mask) 32 (λ i. is_set word i && is_set mask i)
-    (λ i h. and-bit word mask i (is_set word i) (is_set mask i) (isSet-bit word i) (isSet-bit mask i)))
-    ∙ ones-wordOf (λ i. is_set word i && is_set mask i) 32
+    ∙ word_of-of-bits (bit_and word mask) 32 (λ i. is_set word i && is_set mask i)
+    (λ i h. and-bit word mask i (is_set word i) (is_set mask i) (is_set-bit word i) (is_set-bit mask i)))
+    ∙ ones-word_of (λ i. is_set word i && is_set mask i) 32
     ∙ total-same _ _ 32 (λ i h. masked (is_set word i) (is_set mask i))
   where
     masked : (p q : Bool) → bit (p && q) ≡ cond q (bit p) 0
@@ -76,5 +76,5 @@ ones-in word mask a b =
     masked false false = refl
 
 -- a word whose bits are known
-pub setIn-of : (word mask : ℕ) (f : ℕ → Bool) → ((i : ℕ) → is_set word i ≡ f i) → setIn word mask ≡ inMask mask (λ i. bit (f i))
-setIn-of word mask f h = inMask-same mask _ _ (λ i. ap bit (h i))
+pub set_in-of : (word mask : ℕ) (f : ℕ → Bool) → ((i : ℕ) → is_set word i ≡ f i) → set_in word mask ≡ in_mask mask (λ i. bit (f i))
+set_in-of word mask f h = in_mask-same mask _ _ (λ i. ap bit (h i))

@@ -4,7 +4,7 @@ use mathlib.Core.Bool.{Bool, true, false, cond}
 use Prim.Native.Nat.{ℕ, zero, suc, ◌+◌, ◌*◌, ◌≤◌, ◌<◌}
 use native.Mathlib.Nat.{mul-zero, mul-add, suc-mul}
 use native.Mathlib.Omega.{arith}
-use Rattle.cell_tally.specs.Tally.{total, is_set, inMask}
+use Rattle.cell_tally.specs.Tally.{total, is_set, in_mask}
 
 pub total-same : (f g : ℕ → ℕ) (k : ℕ) → ((i : ℕ) → i < k → f i ≡ g i) → total f k ≡ total g k
 unfolding total
@@ -32,25 +32,25 @@ total_mono f g zero h = omega arith
 total_mono f g (suc k) h = omega (arith, total_mono f g k (λ i l. h i (omega arith)), h k (omega arith))
 
 module _ (mask : ℕ) where
-  pub inMask-same : (f g : ℕ → ℕ) → ((i : ℕ) → f i ≡ g i) → inMask mask f ≡ inMask mask g
-  inMask-same f g h = total-same _ _ 32 (λ i l. ap (λ (x : ℕ). cond (is_set mask i) x 0) (h i))
+  pub in_mask-same : (f g : ℕ → ℕ) → ((i : ℕ) → f i ≡ g i) → in_mask mask f ≡ in_mask mask g
+  in_mask-same f g h = total-same _ _ 32 (λ i l. ap (λ (x : ℕ). cond (is_set mask i) x 0) (h i))
 
-  pub inMask-add : (f g : ℕ → ℕ) → inMask mask f + inMask mask g ≡ inMask mask (λ i. f i + g i)
-  inMask-add f g = total-add _ _ 32 ∙ total-same _ _ 32 (λ i l. both (is_set mask i) (f i) (g i))
+  pub in_mask-add : (f g : ℕ → ℕ) → in_mask mask f + in_mask mask g ≡ in_mask mask (λ i. f i + g i)
+  in_mask-add f g = total-add _ _ 32 ∙ total-same _ _ 32 (λ i l. both (is_set mask i) (f i) (g i))
     where
       both : (b : Bool) (x y : ℕ) → cond b x 0 + cond b y 0 ≡ cond b (x + y) 0
       both true x y = refl
       both false x y = refl
 
-  pub inMask-times : (c : ℕ) (f : ℕ → ℕ) → c * inMask mask f ≡ inMask mask (λ i. c * f i)
-  inMask-times c f = total-times c _ 32 ∙ total-same _ _ 32 (λ i l. both (is_set mask i) (f i))
+  pub in_mask-times : (c : ℕ) (f : ℕ → ℕ) → c * in_mask mask f ≡ in_mask mask (λ i. c * f i)
+  in_mask-times c f = total-times c _ 32 ∙ total-same _ _ 32 (λ i l. both (is_set mask i) (f i))
     where
       both : (b : Bool) (x : ℕ) → c * cond b x 0 ≡ cond b (c * x) 0
       both true x = refl
       both false x = mul-zero c
 
-  pub inMask-le : (f : ℕ → ℕ) (c : ℕ) → ((i : ℕ) → f i ≤ c) → inMask mask f ≤ 32 * c
-  inMask-le f c h = total-le _ c 32 (λ i l. both (is_set mask i) (f i) (h i))
+  pub in_mask-le : (f : ℕ → ℕ) (c : ℕ) → ((i : ℕ) → f i ≤ c) → in_mask mask f ≤ 32 * c
+  in_mask-le f c h = total-le _ c 32 (λ i l. both (is_set mask i) (f i) (h i))
     where
       both : (b : Bool) (x : ℕ) → x ≤ c → cond b x 0 ≤ c
       both true x l = l

@@ -3,7 +3,7 @@
 use Rattle.std.specs.Prelude.{Bool, false, cond, ℕ, zero, suc, ◌+◌, ◌/◌, eqb, length}
 use Rattle.marching_cubes_tables.specs.Rule.{bit_at}
 use Rattle.walk.specs.Walk.{bit}
-use Rattle.walk.specs.Ownership.{owned, newEdges}
+use Rattle.walk.specs.Ownership.{owned, new_edges}
 use Rattle.corner_signs.specs.Signs.{row_of}
 use Rattle.cell_tally.specs.declared.Corners.{Corners}
 
@@ -16,22 +16,22 @@ abbrev pub is_set : ℕ → ℕ → Bool
 is_set word i = eqb (bit_at word i) 1
 
 -- over the cells that the mask has a bit for
-abbrev pub inMask : ℕ → (ℕ → ℕ) → ℕ
-inMask mask f = total (λ i. cond (is_set mask i) (f i) 0) 32
+abbrev pub in_mask : ℕ → (ℕ → ℕ) → ℕ
+in_mask mask f = total (λ i. cond (is_set mask i) (f i) 0) 32
 
 -- how many bits the word has in the mask
-abbrev pub setIn : ℕ → ℕ → ℕ
-setIn word mask = inMask mask (λ i. bit (is_set word i))
+abbrev pub set_in : ℕ → ℕ → ℕ
+set_in word mask = in_mask mask (λ i. bit (is_set word i))
 
 -- the signs of the eight corners of cell i, and something of them
-abbrev pub ofSigns : {A : Type 0} → (Bool → Bool → Bool → Bool → Bool → Bool → Bool → Bool → A) → Corners → ℕ → A
-ofSigns f c i =
+abbrev pub of_signs : {A : Type 0} → (Bool → Bool → Bool → Bool → Bool → Bool → Bool → Bool → A) → Corners → ℕ → A
+of_signs f c i =
     f (is_set c.c0 i) (is_set c.c1 i) (is_set c.c2 i) (is_set c.c3 i) (is_set c.c4 i) (is_set c.c5 i) (is_set c.c6 i) (is_set c.c7 i)
 
 -- the triangles of the cells
-abbrev pub trianglesIn : Corners → ℕ → ℕ
-trianglesIn c mask = inMask mask (λ i. length (ofSigns row_of c i) / 3)
+abbrev pub triangles_in : Corners → ℕ → ℕ
+triangles_in c mask = in_mask mask (λ i. length (of_signs row_of c i) / 3)
 
 -- their new edges, above the lowest layer; `first` has a bit for a cell with x = 0, `top` for one with y = 0
-abbrev pub newIn : Corners → ℕ → ℕ → ℕ → ℕ
-newIn c mask first top = inMask mask (λ i. length (newEdges (owned (is_set first i) (is_set top i) false) (ofSigns row_of c i)))
+abbrev pub new_in : Corners → ℕ → ℕ → ℕ → ℕ
+new_in c mask first top = in_mask mask (λ i. length (new_edges (owned (is_set first i) (is_set top i) false) (of_signs row_of c i)))

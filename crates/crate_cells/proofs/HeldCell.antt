@@ -4,17 +4,17 @@ use mathlib.Core.List.{List, [], ◌∷◌}
 use Prim.Native.Nat.{ℕ, zero, suc, ◌+◌, ◌-◌, ◌≤◌, ◌<◌}
 use lib.ListN.{length, get_or, set, replicate}
 use lib.Ieee.{Float}
-use Rattle.walk.specs.Walk.{Inside, Hooks, cellEdges, times, cell}
-use Rattle.walk.specs.Numbering.{oneMore}
+use Rattle.walk.specs.Walk.{Inside, Hooks, cell_edges, times, cell}
+use Rattle.walk.specs.Numbering.{one_more}
 use Rattle.walk.proofs.OwnedCells.{fold, times-fold}
-use Rattle.walk_models.specs.Lent.{Lent, chooseLent, lentHooks}
-use Rattle.walk_models.specs.Owned.{edgeVisit}
-use Rattle.walk_models.specs.CacheMemory.{CacheMemory, putLayer, putRow, putMemory, getMemory, crateMemory}
+use Rattle.walk_models.specs.Lent.{Lent, choose_lent, lent_hooks}
+use Rattle.walk_models.specs.Owned.{edge_visit}
+use Rattle.walk_models.specs.CacheMemory.{CacheMemory, put_layer, put_row, put_memory, get_memory, crate_memory}
 use Rattle.packed_tables.specs.Unpacked.{Edges}
 use Rattle.lent_mesh.specs.declared.Counts.{Counts}
-use Rattle.lent_mesh.specs.Stored.{storeAt, inHand}
-use Rattle.index_cache.specs.Found.{foundAll}
-use Rattle.held_visits.specs.CellMemory.{atBorder, inCell, heldMemory, heldVisit, heldEdges}
+use Rattle.lent_mesh.specs.Stored.{store_at, in_hand}
+use Rattle.index_cache.specs.Found.{found_all}
+use Rattle.held_visits.specs.CellMemory.{at_border, in_cell, held_memory, held_visit, held_edges}
 use Rattle.crate_cells.proofs.FoundKept.{Holds, holds-start, holds-put}
 
 abbrev State : Type 0
@@ -39,41 +39,41 @@ pub record Follows (n x y l r : ℕ) (s t : State) : Type 0 where
   pub vertices : List Float
   pub indices : List ℕ
   pub counts : Counts
-  pub held : s ≡ inHand (inCell work l r current) vertices indices counts
-  pub owned : t ≡ inHand (inCell work l r own) vertices indices counts
+  pub held : s ≡ in_hand (in_cell work l r current) vertices indices counts
+  pub owned : t ≡ in_hand (in_cell work l r own) vertices indices counts
   pub holds : Holds n x y l r work current own
 
 module _ (n x y l r : ℕ) (lx : x < n) (ly : y < n) (ll : l ≤ 1) (lr : r ≤ 1) (samples : List Float) (z : ℕ) where
-  abbrev crateHooks : Hooks State
-  crateHooks = lentHooks (crateMemory n) (storeAt n samples)
+  abbrev crate_hooks : Hooks State
+  crate_hooks = lent_hooks (crate_memory n) (store_at n samples)
 
-  abbrev crateVisit : ℕ → State → State
-  crateVisit e t = crateHooks.visit (edgeVisit x y z e) t
+  abbrev crate_visit : ℕ → State → State
+  crate_visit e t = crate_hooks.visit (edge_visit x y z e) t
 
   -- what either does at the edge e, by the number that it has
-  abbrev heldChoice : ℕ → ℕ → State → State
-  heldChoice e number s = chooseLent (heldMemory n) (storeAt n samples) (oneMore number) (edgeVisit x y z e) s
+  abbrev held_choice : ℕ → ℕ → State → State
+  held_choice e number s = choose_lent (held_memory n) (store_at n samples) (one_more number) (edge_visit x y z e) s
 
-  abbrev crateChoice : ℕ → ℕ → State → State
-  crateChoice e number t = chooseLent (crateMemory n) (storeAt n samples) (oneMore number) (edgeVisit x y z e) t
+  abbrev crate_choice : ℕ → ℕ → State → State
+  crate_choice e number t = choose_lent (crate_memory n) (store_at n samples) (one_more number) (edge_visit x y z e) t
 
   module _ (work current own : List ℕ) (vertices : List Float) (indices : List ℕ) (counts : Counts) where
-    abbrev heldHere : State
-    heldHere = inHand (inCell work l r current) vertices indices counts
+    abbrev held_here : State
+    held_here = in_hand (in_cell work l r current) vertices indices counts
 
-    abbrev crateHere : State
-    crateHere = inHand (inCell work l r own) vertices indices counts
+    abbrev crate_here : State
+    crate_here = in_hand (in_cell work l r own) vertices indices counts
 
     choose-follows : (e number : ℕ) → e < 12 → get_or current e 0 ≡ number → Holds n x y l r work current own
-        → Follows n x y l r (heldChoice e number heldHere) (crateChoice e number crateHere)
-    unfolding chooseLent heldMemory crateMemory putMemory
+        → Follows n x y l r (held_choice e number held_here) (crate_choice e number crate_here)
+    unfolding choose_lent held_memory crate_memory put_memory
     choose-follows e zero h none s =
         let i : ℕ = counts.made in
         record {
-          work = putRow n (1 - r) x e i (putLayer n (1 - l) x y e i work);
+          work = put_row n (1 - r) x e i (put_layer n (1 - l) x y e i work);
           current = set current e i;
           own = set own e i;
-          vertices = storeAt n samples (edgeVisit x y z e) i vertices;
+          vertices = store_at n samples (edge_visit x y z e) i vertices;
           indices = set indices counts.written i;
           counts = record { made = i + 1; written = counts.written + 1 };
           held = refl;
@@ -94,37 +94,37 @@ module _ (n x y l r : ℕ) (lx : x < n) (ly : y < n) (ll : l ≤ 1) (lr : r ≤ 
         }
 
     visit-follows : (e : ℕ) → e < 12 → Holds n x y l r work current own
-        → Follows n x y l r (heldVisit n samples x y z e heldHere) (crateVisit e crateHere)
-    unfolding heldVisit lentHooks heldMemory crateMemory
+        → Follows n x y l r (held_visit n samples x y z e held_here) (crate_visit e crate_here)
+    unfolding held_visit lent_hooks held_memory crate_memory
     visit-follows e h s =
-        subst (λ (k : ℕ). Follows n x y l r (heldVisit n samples x y z e heldHere) (crateChoice e k crateHere)) (s.numbers e h)
+        subst (λ (k : ℕ). Follows n x y l r (held_visit n samples x y z e held_here) (crate_choice e k crate_here)) (s.numbers e h)
         (choose-follows e (get_or current e 0) h refl s)
 
-  step_follows : (e : ℕ) (s t : State) → e < 12 → Follows n x y l r s t → Follows n x y l r (heldVisit n samples x y z e s) (crateVisit e t)
+  step_follows : (e : ℕ) (s t : State) → e < 12 → Follows n x y l r s t → Follows n x y l r (held_visit n samples x y z e s) (crate_visit e t)
   step_follows e s t h f = rw (f.held, f.owned) (visit-follows f.work f.current f.own f.vertices f.indices f.counts e h f.holds)
 
   edges-follow : (es : List ℕ) (s t : State) → Edges es → Follows n x y l r s t
-      → Follows n x y l r (fold (heldVisit n samples x y z) es s) (fold crateVisit es t)
+      → Follows n x y l r (fold (held_visit n samples x y z) es s) (fold crate_visit es t)
   unfolding fold Edges
   edges-follow [] s t h f = f
-  edges-follow (e ∷ es) s t h f = edges-follow es (heldVisit n samples x y z e s) (crateVisit e t) h.1 (step_follows e s t h.0 f)
+  edges-follow (e ∷ es) s t h f = edges-follow es (held_visit n samples x y z e s) (crate_visit e t) h.1 (step_follows e s t h.0 f)
 
-  follows-left : (s t : State) → Follows n x y l r s t → left s ≡ crateHooks.cellEnd t
-  unfolding lentHooks crateMemory
+  follows-left : (s t : State) → Follows n x y l r s t → left s ≡ crate_hooks.cell_end t
+  unfolding lent_hooks crate_memory
   follows-left s t f = ap left f.held ∙ sym (ap left f.owned)
 
   pub held-cell : (g : Inside) (es work current : List ℕ) (vertices : List Float) (indices : List ℕ) (counts : Counts)
       (u held : List ℕ) (vs : List Float) (is : List ℕ) (reached : Counts)
-      → es ≡ cellEdges g x y z
+      → es ≡ cell_edges g x y z
       → Edges es
-      → current ≡ foundAll n x y l r work
-      → inHand (inCell u l r held) vs is reached ≡ heldEdges n samples x y z es (inHand (inCell work l r current) vertices indices counts)
-      → inHand (atBorder u l r) vs is reached
-      ≡ cell (lentHooks (crateMemory n) (storeAt n samples)) g n z y x (inHand (atBorder work l r) vertices indices counts)
-  unfolding cell heldEdges
+      → current ≡ found_all n x y l r work
+      → in_hand (in_cell u l r held) vs is reached ≡ held_edges n samples x y z es (in_hand (in_cell work l r current) vertices indices counts)
+      → in_hand (at_border u l r) vs is reached
+      ≡ cell (lent_hooks (crate_memory n) (store_at n samples)) g n z y x (in_hand (at_border work l r) vertices indices counts)
+  unfolding cell held_edges
   held-cell g es work current vertices indices counts u held vs is reached row each found h =
-      let s : State = inHand (inCell work l r current) vertices indices counts in
-      let t : State = inHand (atBorder work l r) vertices indices counts in
+      let s : State = in_hand (in_cell work l r current) vertices indices counts in
+      let t : State = in_hand (at_border work l r) vertices indices counts in
       let start : Follows n x y l r s t =
       record {
         work = work;
@@ -137,7 +137,7 @@ module _ (n x y l r : ℕ) (lx : x < n) (ly : y < n) (ll : l ≤ 1) (lr : r ≤ 
         owned = refl;
         holds = rw found (holds-start n x y l r work);
       } in
-      ap left (h ∙ times-fold (heldVisit n samples x y z) 0 es s)
-      ∙ follows-left (fold (heldVisit n samples x y z) es s) (fold crateVisit es t) (edges-follow es s t each start)
-      ∙ ap (λ (a : State). crateHooks.cellEnd a) (sym (times-fold crateVisit 0 es t))
-      ∙ ap (λ (edges : List ℕ). crateHooks.cellEnd (times (length edges) (λ j a. crateVisit (get_or edges j 0) a) t)) row
+      ap left (h ∙ times-fold (held_visit n samples x y z) 0 es s)
+      ∙ follows-left (fold (held_visit n samples x y z) es s) (fold crate_visit es t) (edges-follow es s t each start)
+      ∙ ap (λ (a : State). crate_hooks.cell_end a) (sym (times-fold crate_visit 0 es t))
+      ∙ ap (λ (edges : List ℕ). crate_hooks.cell_end (times (length edges) (λ j a. crate_visit (get_or edges j 0) a) t)) row

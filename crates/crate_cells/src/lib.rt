@@ -2,15 +2,15 @@
 // other visit by visit.
 ghost use Rattle.std.specs.Prelude.{◌≡◌, ◌+◌, ◌^◌, ◌≤◌, ◌<◌};
 ghost use Rattle.walk.specs.Walk.{cell, signs};
-ghost use Rattle.walk_models.specs.Lent.{lentHooks};
-ghost use Rattle.walk_models.specs.CacheMemory.{crateMemory};
-ghost use Rattle.packed_tables.specs.Packed.{rowWords};
-ghost use Rattle.packed_tables.specs.Regular.{regularWords};
+ghost use Rattle.walk_models.specs.Lent.{lent_hooks};
+ghost use Rattle.walk_models.specs.CacheMemory.{crate_memory};
+ghost use Rattle.packed_tables.specs.Packed.{row_words};
+ghost use Rattle.packed_tables.specs.Regular.{regular_words};
 ghost use Rattle.lent_mesh.specs.declared.Counts.{Counts};
-ghost use Rattle.lent_mesh.specs.Grid.{insideOf};
-ghost use Rattle.lent_mesh.specs.Stored.{storeAt, inHand, CellOf, Coordinates};
+ghost use Rattle.lent_mesh.specs.Grid.{inside_of};
+ghost use Rattle.lent_mesh.specs.Stored.{store_at, in_hand, CellOf, Coordinates};
 ghost use Rattle.index_cache.specs.Found.{CacheRoom};
-ghost use Rattle.held_visits.specs.CellMemory.{atBorder};
+ghost use Rattle.held_visits.specs.CellMemory.{at_border};
 
 use lent_mesh::Counts;
 
@@ -37,9 +37,9 @@ pub fn crate_cell(
 ) -> Counts
     requires cell_of { CellOf samples.now n x y z }
     requires cache_room { CacheRoom n layer row work.old }
-    requires rows_value { (rows.now ≡ rowWords) × (regulars.now ≡ regularWords) × Coordinates n coordinates.now × (case ≡ signs (insideOf n samples.now) x y z) }
+    requires rows_value { (rows.now ≡ row_words) × (regulars.now ≡ regular_words) × Coordinates n coordinates.now × (case ≡ signs (inside_of n samples.now) x y z) }
     requires made_le_written { (counts.made ≤ counts.written) × (counts.written + 15 < 2 ^ 32) }
-    ensures result_after { inHand (atBorder work.new layer row) vertices.new indices.new result ≡ cell (lentHooks (crateMemory n) (storeAt n samples.now)) (insideOf n samples.now) n z y x (inHand (atBorder work.old layer row) vertices.old indices.old counts) }
+    ensures result_after { in_hand (at_border work.new layer row) vertices.new indices.new result ≡ cell (lent_hooks (crate_memory n) (store_at n samples.now)) (inside_of n samples.now) n z y x (in_hand (at_border work.old layer row) vertices.old indices.old counts) }
     ensures written_bound { (result.written ≤ counts.written + 15) × (result.made ≤ result.written) }
 {
     let word = rows[case];

@@ -1,7 +1,7 @@
 // The one-edge answer as it crosses the C boundary: its kind beside the cause, the place and the offset.
 ghost use Rattle.std.specs.Prelude.{◌≡◌};
 ghost use Rattle.marching_cubes_impl.specs.Edge.{crossing_of};
-ghost use Rattle.edge_answer.specs.Edge.{edgeAnswer};
+ghost use Rattle.edge_answer.specs.Edge.{edge_answer};
 
 use marching_cubes_impl::edge::Crossing;
 
@@ -17,7 +17,7 @@ pub struct EdgeAnswer {
 
 // Whether and where the surface crosses the edge whose ends have the samples a and b, in order.
 pub fn edge_answer(a: f32, b: f32) -> EdgeAnswer
-    ensures { result ≡ edgeAnswer (crossing_of a b) }
+    ensures { result ≡ edge_answer (crossing_of a b) }
 {
     let crossing = marching_cubes_impl::edge::crossing_on(a, b);
     match crossing {

@@ -1,16 +1,16 @@
 // The count of either numbering over a grid. Layers and rows are taken as the walk takes them, and `row_count`
 // counts a row; in the joined numbering the layers above the lowest are counted by `layer_tally`.
 ghost use Rattle.std.specs.Prelude.{◌≡◌, cond, ℕ, ◌+◌, ◌-◌, ◌*◌, ◌≤◌, ◌<◌, eqb, length};
-ghost use Rattle.walk_models.specs.Owned.{cellsOfLayer};
-ghost use Rattle.lent_mesh.specs.Grid.{insideOf};
+ghost use Rattle.walk_models.specs.Owned.{cells_of_layer};
+ghost use Rattle.lent_mesh.specs.Grid.{inside_of};
 ghost use Rattle.sign_words.specs.Words.{LayerWords};
-ghost use Rattle.row_walk.specs.Steps.{rowParity};
+ghost use Rattle.row_walk.specs.Steps.{row_parity};
 ghost use Rattle.grid_walk.specs.Growth.{GrowsWithin};
-ghost use Rattle.held_bits.specs.HeldCell.{held, heldRoom, clearHeld};
+ghost use Rattle.held_bits.specs.HeldCell.{held, held_room, clear_held};
 ghost use Rattle.layer_tally.specs.Layer.{Masks, Firsts};
 ghost use Rattle.row_count.specs.Countable.{Tables, Countable};
-ghost use Rattle.row_count.specs.Steps.{countStep};
-ghost use Rattle.grid_count.specs.Steps.{countSteps};
+ghost use Rattle.row_count.specs.Steps.{count_step};
+ghost use Rattle.grid_count.specs.Steps.{count_steps};
 
 use grid_walk::Span;
 use lent_mesh::Counts;
@@ -37,10 +37,10 @@ fn count_rows(
     counts: Counts,
 ) -> Counts
     requires tables { Tables news.now names.now }
-    requires le_n { (2 ≤ n) × (n ≤ 128) × (parity ≡ rowParity n z 0) }
+    requires le_n { (2 ≤ n) × (n ≤ 128) × (parity ≡ row_parity n z 0) }
     requires layer_words { LayerWords n samples.now z low.now × LayerWords n samples.now (z + 1) high.now }
     requires countable { Countable n work.old 243840 counts }
-    ensures result_after { held work.new result ≡ cellsOfLayer (countStep numbering n (insideOf n samples.now)) n z (n - 1) (held work.old counts) }
+    ensures result_after { held work.new result ≡ cells_of_layer (count_step numbering n (inside_of n samples.now)) n z (n - 1) (held work.old counts) }
     ensures written_bound { (result.written ≤ counts.written + 243840) × (result.made ≤ result.written) }
 {
     let mut reached = counts;
@@ -73,10 +73,10 @@ fn count_layer(
     counts: Counts,
 ) -> Counts
     requires tables { Tables news.now names.now × Masks n masks.now × Firsts firsts.now }
-    requires le_n { (2 ≤ n) × (n ≤ 128) × (parity ≡ rowParity n z 0) }
+    requires le_n { (2 ≤ n) × (n ≤ 128) × (parity ≡ row_parity n z 0) }
     requires layer_words { LayerWords n samples.now z low.now × LayerWords n samples.now (z + 1) high.now }
     requires countable { Countable n work.old 243840 counts }
-    ensures result_after { held work.new result ≡ cellsOfLayer (countStep numbering n (insideOf n samples.now)) n z (n - 1) (held work.old counts) }
+    ensures result_after { held work.new result ≡ cells_of_layer (count_step numbering n (inside_of n samples.now)) n z (n - 1) (held work.old counts) }
     ensures written_bound { (result.written ≤ counts.written + 243840) × (result.made ≤ result.written) }
 {
     if numbering > 0 {
@@ -91,8 +91,8 @@ fn count_layer(
 
 // After the last row of a layer, the crate numbering's row that is read next is empty.
 fn end_layer(numbering: u32, work: &mut [u32], n: usize, row: usize)
-    requires { (n ≤ 128) × (row ≤ 1) × (heldRoom n ≤ length work.old) }
-    ensures { work.new ≡ cond (eqb numbering 0) (clearHeld n row n work.old) work.old }
+    requires { (n ≤ 128) × (row ≤ 1) × (held_room n ≤ length work.old) }
+    ensures { work.new ≡ cond (eqb numbering 0) (clear_held n row n work.old) work.old }
 {
     if numbering == 0 {
         held_bits::clear_held(work, n, row);
@@ -122,9 +122,9 @@ fn span_after(span: Span, z: usize, before: u32, after: u32) -> Span
 
 // The whole grid. The tables are made here and lent; the joined numbering leaves working memory alone.
 pub fn count_grid(numbering: u32, samples: &[f32], n: usize, work: &mut [u32]) -> Reach
-    requires { (2 ≤ n) × (n ≤ 128) × (n * n * (n + 1) ≤ length samples.now) × (heldRoom n ≤ length work.old) }
-    ensures counts_value { held work.exit.now result.counts ≡ countSteps numbering n (insideOf n samples.now) n (record { work = work.entry.now; made = 0; written = 0 }) }
-    ensures grows_within { GrowsWithin (λ k. (countSteps numbering n (insideOf n samples.now) k (record { work = work.entry.now; made = 0; written = 0 })).written) n result.span }
+    requires { (2 ≤ n) × (n ≤ 128) × (n * n * (n + 1) ≤ length samples.now) × (held_room n ≤ length work.old) }
+    ensures counts_value { held work.exit.now result.counts ≡ count_steps numbering n (inside_of n samples.now) n (record { work = work.entry.now; made = 0; written = 0 }) }
+    ensures grows_within { GrowsWithin (λ k. (count_steps numbering n (inside_of n samples.now) k (record { work = work.entry.now; made = 0; written = 0 })).written) n result.span }
     ensures written_bound { (result.counts.written ≤ 31211520) × (result.counts.made ≤ result.counts.written) }
 {
     let news = packed_tables::new_words();

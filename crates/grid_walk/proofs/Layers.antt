@@ -9,14 +9,14 @@ use native.Mathlib.Omega.{arith}
 use lib.Dec.{eqb}
 use lib.ListN.{length}
 use lib.Ieee.{Float}
-use Rattle.walk_models.specs.Owned.{cellsOfLayer}
-use Rattle.walk_models.specs.CacheMemory.{clearRow}
+use Rattle.walk_models.specs.Owned.{cells_of_layer}
+use Rattle.walk_models.specs.CacheMemory.{clear_row}
 use Rattle.lent_mesh.specs.declared.Counts.{Counts}
-use Rattle.lent_mesh.specs.Stored.{inHand}
+use Rattle.lent_mesh.specs.Stored.{in_hand}
 use Rattle.sign_words.proofs.RowWords.{planes-le}
-use Rattle.row_walk.specs.Steps.{Hand, rowParity, cellStep}
+use Rattle.row_walk.specs.Steps.{Hand, row_parity, cell_step}
 use Rattle.row_walk.specs.Ready.{LayerOf}
-use Rattle.grid_walk.specs.Steps.{layerStep}
+use Rattle.grid_walk.specs.Steps.{layer_step}
 
 added : (k m : ℕ) → (k % 2 + m) % 2 ≡ (k + m) % 2
 added k m = omega arith
@@ -32,7 +32,7 @@ swaps-le n z most h =
     omega arith
 
 -- rows swap n - 1 times a layer
-pub parity-layer : (n z row : ℕ) → row ≡ rowParity n z 0 → (row + (n - 1)) % 2 ≡ rowParity n (z + 1) 0
+pub parity-layer : (n z row : ℕ) → row ≡ row_parity n z 0 → (row + (n - 1)) % 2 ≡ row_parity n (z + 1) 0
 parity-layer n z row e =
     let more : z * (n - 1) + 0 + (n - 1) ≡ (z + 1) * (n - 1) + 0 = omega (arith, suc-mul z (n - 1)) in
     ap (λ (r : ℕ). (r + (n - 1)) % 2) e ∙ added (z * (n - 1) + 0) (n - 1) ∙ ap (λ (k : ℕ). k % 2) more
@@ -44,18 +44,18 @@ layer-of samples n z least most whole h =
 
 -- a layer of cells, then its end
 pub layer-done : (numbering n : ℕ) (samples : List Float) (z row : ℕ) (work cleared : List ℕ) (vertices : List Float) (indices : List ℕ) (counts : Counts) (here : Hand)
-    → row ≡ rowParity n (z + 1) 0
-    → inHand work vertices indices counts ≡ cellsOfLayer (cellStep numbering n samples) n z (n - 1) here
-    → cleared ≡ cond (eqb numbering 0) (clearRow n row n work) work
-    → inHand cleared vertices indices counts ≡ layerStep numbering n samples z (cellsOfLayer (cellStep numbering n samples) n z (n - 1) here)
-unfolding layerStep
+    → row ≡ row_parity n (z + 1) 0
+    → in_hand work vertices indices counts ≡ cells_of_layer (cell_step numbering n samples) n z (n - 1) here
+    → cleared ≡ cond (eqb numbering 0) (clear_row n row n work) work
+    → in_hand cleared vertices indices counts ≡ layer_step numbering n samples z (cells_of_layer (cell_step numbering n samples) n z (n - 1) here)
+unfolding layer_step
 layer-done numbering n samples z row work cleared vertices indices counts here p e q =
-    let next : row ≡ rowParity n (suc z) 0 = p ∙ ap (λ (k : ℕ). rowParity n k 0) (add-one z) in
-    ap (λ (w : List ℕ). inHand w vertices indices counts) (q ∙ rw next)
+    let next : row ≡ row_parity n (suc z) 0 = p ∙ ap (λ (k : ℕ). row_parity n k 0) (add-one z) in
+    ap (λ (w : List ℕ). in_hand w vertices indices counts) (q ∙ rw next)
     ∙ either (eqb numbering 0)
-    ∙ ap (λ (s : Hand). cond (eqb numbering 0) (record { memory = clearRow n (rowParity n (suc z) 0) n s.memory; vertices = s.vertices; indices = s.indices; made = s.made; written = s.written }) s) e
+    ∙ ap (λ (s : Hand). cond (eqb numbering 0) (record { memory = clear_row n (row_parity n (suc z) 0) n s.memory; vertices = s.vertices; indices = s.indices; made = s.made; written = s.written }) s) e
   where
-    either : (b : Bool) → inHand (cond b (clearRow n (rowParity n (suc z) 0) n work) work) vertices indices counts
-        ≡ cond b (inHand (clearRow n (rowParity n (suc z) 0) n work) vertices indices counts) (inHand work vertices indices counts)
+    either : (b : Bool) → in_hand (cond b (clear_row n (row_parity n (suc z) 0) n work) work) vertices indices counts
+        ≡ cond b (in_hand (clear_row n (row_parity n (suc z) 0) n work) vertices indices counts) (in_hand work vertices indices counts)
     either true = refl
     either false = refl

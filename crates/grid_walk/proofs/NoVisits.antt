@@ -6,7 +6,7 @@ use native.Mathlib.Decide.{dec_lt}
 use native.Mathlib.Nat.{le_refl, le_trans}
 use native.Mathlib.Omega.{arith}
 use lib.ListN.{length}
-use Rattle.walk.specs.Walk.{Visit, Inside, visitOf, cellEdges, times, cell, cells, rows, walk, listing, visits}
+use Rattle.walk.specs.Walk.{Visit, Inside, visit_of, cell_edges, times, cell, cells, rows, walk, listing, visits}
 use Rattle.walk.proofs.Each.{length-snoc}
 
 -- ---- what no step makes smaller
@@ -28,37 +28,37 @@ no_edges [] h = refl
 no_edges (e ∷ l) h = absurd (omega arith)
 
 module _ (g : Inside) (n : ℕ) where
-  listed : (z y x k : ℕ) (l : List Visit) → length (times k (λ j t. listing.visit (visitOf g x y z j) t) l) ≡ length l + k
+  listed : (z y x k : ℕ) (l : List Visit) → length (times k (λ j t. listing.visit (visit_of g x y z j) t) l) ≡ length l + k
   unfolding listing times
   listed z y x zero l = omega arith
   listed z y x (suc k) l =
-      let one = length-snoc (times k (λ j t. t ++ (visitOf g x y z j ∷ [])) l) (visitOf g x y z k) in
+      let one = length-snoc (times k (λ j t. t ++ (visit_of g x y z j ∷ [])) l) (visit_of g x y z k) in
       let rest = listed z y x k l in
       omega arith
 
-  cell-listed : (z y x : ℕ) (l : List Visit) → length (cell listing g n z y x l) ≡ length l + length (cellEdges g x y z)
+  cell-listed : (z y x : ℕ) (l : List Visit) → length (cell listing g n z y x l) ≡ length l + length (cell_edges g x y z)
   unfolding cell listing
-  cell-listed z y x l = listed z y x (length (cellEdges g x y z)) l
+  cell-listed z y x l = listed z y x (length (cell_edges g x y z)) l
 
   cell-grows : (z y x : ℕ) (l : List Visit) → length l ≤ length (cell listing g n z y x l)
   cell-grows z y x l = let e = cell-listed z y x l in omega arith
 
   abbrev row : ℕ → ℕ → List Visit → List Visit
-  row z y l = listing.rowEnd (cells listing g n z y (n - 1) l)
+  row z y l = listing.row_end (cells listing g n z y (n - 1) l)
 
   row-grows : (z y : ℕ) (l : List Visit) → length l ≤ length (row z y l)
   unfolding cells listing times
   row-grows z y l = times-grows length (cell listing g n z y) (cell-grows z y) l 0 (n - 1) (omega arith)
 
   abbrev layer : ℕ → List Visit → List Visit
-  layer z l = listing.layerEnd z (rows listing g n z (n - 1) l)
+  layer z l = listing.layer_end z (rows listing g n z (n - 1) l)
 
   layer-grows : (z : ℕ) (l : List Visit) → length l ≤ length (layer z l)
   unfolding rows listing times
   layer-grows z l = times-grows length (row z) (row-grows z) l 0 (n - 1) (omega arith)
 
   -- a layer adds no less than each of its cells
-  cell-within : (z y x : ℕ) (l : List Visit) → y < n - 1 → x < n - 1 → length l + length (cellEdges g x y z) ≤ length (layer z l)
+  cell-within : (z y x : ℕ) (l : List Visit) → y < n - 1 → x < n - 1 → length l + length (cell_edges g x y z) ≤ length (layer z l)
   unfolding rows cells listing times
   cell-within z y x l ly lx =
       let at_row : List Visit = times y (row z) l in
@@ -70,10 +70,10 @@ module _ (g : Inside) (n : ℕ) where
       let e = times-grows length (row z) (row-grows z) l (suc y) (n - 1) ly in
       omega arith
 
-  pub no-visits : (k m : ℕ) → length (visits g n k) ≡ length (visits g n m) → (z y x : ℕ) → k ≤ z → z < m → y < n - 1 → x < n - 1 → cellEdges g x y z ≡ []
+  pub no-visits : (k m : ℕ) → length (visits g n k) ≡ length (visits g n m) → (z y x : ℕ) → k ≤ z → z < m → y < n - 1 → x < n - 1 → cell_edges g x y z ≡ []
   unfolding visits walk times
   no-visits k m same z y x hk hm ly lx =
       let a = times-grows length layer layer-grows [] k z hk in
       let b = cell-within z y x (times z layer []) ly lx in
       let c = times-grows length layer layer-grows [] (suc z) m hm in
-      no_edges (cellEdges g x y z) (omega arith)
+      no_edges (cell_edges g x y z) (omega arith)

@@ -2,17 +2,17 @@
 // held in local arrays.
 ghost use Rattle.std.specs.Prelude.{◌≡◌, ℕ, ◌+◌, ◌-◌, ◌*◌, ◌≤◌, ◌<◌, cond, eqb, length, get_or};
 ghost use Rattle.walk.specs.Walk.{visits};
-ghost use Rattle.walk_models.specs.Owned.{cellsOfLayer};
+ghost use Rattle.walk_models.specs.Owned.{cells_of_layer};
 ghost use Rattle.walk_models.specs.Lent.{untouched};
-ghost use Rattle.walk_models.specs.CacheMemory.{clearRow};
-ghost use Rattle.packed_tables.specs.Packed.{rowWords, newWords};
-ghost use Rattle.packed_tables.specs.Regular.{regularWords};
-ghost use Rattle.lent_mesh.specs.Grid.{insideOf};
-ghost use Rattle.lent_mesh.specs.Stored.{inHand, Coordinates};
+ghost use Rattle.walk_models.specs.CacheMemory.{clear_row};
+ghost use Rattle.packed_tables.specs.Packed.{row_words, new_words};
+ghost use Rattle.packed_tables.specs.Regular.{regular_words};
+ghost use Rattle.lent_mesh.specs.Grid.{inside_of};
+ghost use Rattle.lent_mesh.specs.Stored.{in_hand, Coordinates};
 ghost use Rattle.sign_words.specs.Words.{LayerWords};
-ghost use Rattle.row_walk.specs.Steps.{rowParity, cellStep};
+ghost use Rattle.row_walk.specs.Steps.{row_parity, cell_step};
 ghost use Rattle.row_walk.specs.Ready.{LayerOf, Room};
-ghost use Rattle.grid_walk.specs.Steps.{walkSteps};
+ghost use Rattle.grid_walk.specs.Steps.{walk_steps};
 ghost use Rattle.grid_walk.specs.Growth.{GrowsWithin};
 
 use lent_mesh::Counts;
@@ -42,12 +42,12 @@ fn layer_cells(
     indices: &mut [u32],
     counts: Counts,
 ) -> Counts
-    requires rows_value { (rows.now ≡ rowWords) × (regulars.now ≡ regularWords) × (news.now ≡ newWords) × Coordinates n coordinates.now }
-    requires layer_of { LayerOf samples.now n z × (parity ≡ rowParity n z 0) }
+    requires rows_value { (rows.now ≡ row_words) × (regulars.now ≡ regular_words) × (news.now ≡ new_words) × Coordinates n coordinates.now }
+    requires layer_of { LayerOf samples.now n z × (parity ≡ row_parity n z 0) }
     requires layer_words { LayerWords n samples.now z low.now × LayerWords n samples.now (z + 1) high.now }
     requires room { Room n work.old 243840 counts }
-    ensures result_after { inHand work.new vertices.new indices.new result
-        ≡ cellsOfLayer (cellStep numbering n samples.now) n z (n - 1) (inHand work.old vertices.old indices.old counts) }
+    ensures result_after { in_hand work.new vertices.new indices.new result
+        ≡ cells_of_layer (cell_step numbering n samples.now) n z (n - 1) (in_hand work.old vertices.old indices.old counts) }
     ensures written_bound { (result.written ≤ counts.written + 243840) × (result.made ≤ result.written) }
 {
     let slots = joined_slots::slots(n, z);
@@ -83,7 +83,7 @@ fn layer_cells(
 // After the last row of a layer, `advance_layer` of the crate numbering.
 fn end_layer(numbering: u32, work: &mut [u32], n: usize, row: usize)
     requires { (n ≤ 128) × (row ≤ 1) × (8 * (n * n) + 6 * n ≤ length work.old) }
-    ensures { work.new ≡ cond (eqb numbering 0) (clearRow n row n work.old) work.old }
+    ensures { work.new ≡ cond (eqb numbering 0) (clear_row n row n work.old) work.old }
 {
     if numbering == 0 {
         index_cache::clear_row(work, n, row);
@@ -102,9 +102,9 @@ pub fn walk(
     indices: &mut [u32],
 ) -> Counts
     requires le_n { (2 ≤ n) × (n ≤ 128) × (n * n * (n + 1) ≤ length samples.now) × (8 * (n * n) + 6 * n ≤ length work.old) }
-    requires grows_within { GrowsWithin (λ k. length (visits (insideOf n samples.now) n k)) n span × ((i : ℕ) → i < 8 * (n * n) + 6 * n → get_or work.old i 0 ≡ 0) }
-    ensures result_after { inHand work.new vertices.new indices.new result
-        ≡ walkSteps numbering n samples.now span.last (untouched work.old vertices.old indices.old) }
+    requires grows_within { GrowsWithin (λ k. length (visits (inside_of n samples.now) n k)) n span × ((i : ℕ) → i < 8 * (n * n) + 6 * n → get_or work.old i 0 ≡ 0) }
+    ensures result_after { in_hand work.new vertices.new indices.new result
+        ≡ walk_steps numbering n samples.now span.last (untouched work.old vertices.old indices.old) }
     ensures written_bound { (result.written ≤ 31211520) × (result.made ≤ result.written) }
 {
     let rows = packed_tables::row_words();

@@ -14,12 +14,12 @@ use lib.ListN.{length}
 use lib.Pow.{shr_lt}
 use Rattle.marching_cubes_tables.specs.Rule.{bit_at, member}
 use Rattle.walk.specs.Walk.{bit}
-use Rattle.walk.specs.Ownership.{newEdges}
-use Rattle.walk.proofs.NewEdges.{counted, newEdges-counted}
+use Rattle.walk.specs.Ownership.{new_edges}
+use Rattle.walk.proofs.NewEdges.{counted, new_edges-counted}
 use Rattle.packed_tables.specs.Unpacked.{Edges}
 use Rattle.packed_tables.proofs.PackedEdges.{edges-each}
 use Rattle.sign_words.proofs.OneBit.{or-bit, xor-bit, shift-bit}
-use Rattle.held_bits.specs.HeldCell.{newSet}
+use Rattle.held_bits.specs.HeldCell.{new_set}
 
 -- ---- how many edges a set has
 
@@ -57,19 +57,19 @@ not-held true false = refl
 not-held false true = refl
 not-held false false = refl
 
-pub newSet-has : (named held : ℕ) (f h : ℕ → Bool) → Has named f → Has held h → Has (newSet named held) (λ e. f e && not (h e))
-unfolding newSet
-newSet-has named held f h p q i l =
+pub new_set-has : (named held : ℕ) (f h : ℕ → Bool) → Has named f → Has held h → Has (new_set named held) (λ e. f e && not (h e))
+unfolding new_set
+new_set-has named held f h p q i l =
     xor-bit (bit_or named held) held i (f (edge_at i) || h (edge_at i)) (h (edge_at i)) (or-bit named held i (f (edge_at i)) (h (edge_at i)) (p i l) (q i l)) (q i l)
     ∙ not-held (f (edge_at i)) (h (edge_at i))
 
-pub newSet-lt : (named held : ℕ) → named < 4096 → held < 4096 → newSet named held < 4096
-unfolding newSet
-newSet-lt named held p q = xor_lt 12 (bit_or named held) held (or_lt 12 named held p q) q
+pub new_set-lt : (named held : ℕ) → named < 4096 → held < 4096 → new_set named held < 4096
+unfolding new_set
+new_set-lt named held p q = xor_lt 12 (bit_or named held) held (or_lt 12 named held p q) q
 
 -- how many they are, where the word `named` has the edges of a list
-pub newSet-ones : (es : List ℕ) (named held : ℕ) (h : ℕ → Bool) → Edges es → named < 4096 → held < 4096 → Has named (λ e. member e es) → Has held h
-    → ones (newSet named held) ≡ length (newEdges (λ e. not (h e)) es)
-newSet-ones es named held h each p q a b =
-    ones-edges (newSet named held) (λ e. member e es && not (h e)) (newSet-lt named held p q) (newSet-has named held (λ e. member e es) h a b)
-    ∙ sym (newEdges-counted es (λ e. not (h e)) (edges-each es each))
+pub new_set-ones : (es : List ℕ) (named held : ℕ) (h : ℕ → Bool) → Edges es → named < 4096 → held < 4096 → Has named (λ e. member e es) → Has held h
+    → ones (new_set named held) ≡ length (new_edges (λ e. not (h e)) es)
+new_set-ones es named held h each p q a b =
+    ones-edges (new_set named held) (λ e. member e es && not (h e)) (new_set-lt named held p q) (new_set-has named held (λ e. member e es) h a b)
+    ∙ sym (new_edges-counted es (λ e. not (h e)) (edges-each es each))

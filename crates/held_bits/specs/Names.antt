@@ -4,8 +4,8 @@ use Rattle.std.specs.Prelude.{List, [], ◌∷◌, ℕ}
 
 -- by sign byte: twelve bits for the edges that the row names, those of 10 and 11 exchanged, four for the number of its entries, twelve for the edges
 -- that it names after its first entry, and 1 above them if it has an entry
-unfoldable pub nameWords : List ℕ
-nameWords =
+unfoldable pub name_words : List ℕ
+name_words =
     0x0 ∷ 0x11083109 ∷ 0x12023203 ∷ 0x130A630A ∷ 0x18043806 ∷ 0x190E690F ∷ 0x1A056A05 ∷ 0x1B0C9B0C ∷
     0x1404340C ∷ 0x15056505 ∷ 0x160D660F ∷ 0x17069706 ∷ 0x1C0A6C0A ∷ 0x1D039D03 ∷ 0x1E099E09 ∷ 0x1D006F00 ∷
     0x11803190 ∷ 0x10996099 ∷ 0x13926393 ∷ 0x129A929A ∷ 0x19946996 ∷ 0x189F989F ∷ 0x1B959B95 ∷ 0x1A9CCA9C ∷

@@ -4,14 +4,14 @@
 mod names;
 
 ghost use Rattle.std.specs.Prelude.{◌≡◌, ◌+◌, ◌-◌, ◌*◌, ◌^◌, ◌≤◌, ◌<◌, length, get_or};
-ghost use Rattle.held_bits.specs.Names.{nameWords};
-ghost use Rattle.held_bits.specs.HeldCell.{held, heldRoom, layerWord, rowWord, namedSet, firstMade, heldSet, newSet, putSet, heldCell, clearHeld, HeldRoom};
+ghost use Rattle.held_bits.specs.Names.{name_words};
+ghost use Rattle.held_bits.specs.HeldCell.{held, held_room, layer_word, row_word, named_set, first_made, held_set, new_set, put_set, held_cell, clear_held, HeldRoom};
 
 use lent_mesh::Counts;
 
 // A table to be made once and lent.
 pub fn name_words() -> [u32; 256]
-    ensures { result ≡ nameWords }
+    ensures { result ≡ name_words }
 {
     names::NAME_WORDS
 }
@@ -19,7 +19,7 @@ pub fn name_words() -> [u32; 256]
 // The word of the place (x, y) in a layer.
 fn layer_word(n: usize, x: usize, y: usize, layer: usize) -> usize
     requires { (n ≤ 128) × (x < n) × (y < n) × (layer ≤ 1) }
-    ensures { (result ≡ layerWord n layer x y) × (result < 2 * (n * n)) × (result < 2 ^ 32) }
+    ensures { (result ≡ layer_word n layer x y) × (result < 2 * (n * n)) × (result < 2 ^ 32) }
 {
     2 * (y * n + x) + layer
 }
@@ -27,7 +27,7 @@ fn layer_word(n: usize, x: usize, y: usize, layer: usize) -> usize
 // The word of the place x in a row.
 fn row_word(n: usize, x: usize, row: usize) -> usize
     requires { (n ≤ 128) × (x < n) × (row ≤ 1) }
-    ensures { (result ≡ rowWord n row x) × (result < heldRoom n) × (result < 2 ^ 32) }
+    ensures { (result ≡ row_word n row x) × (result < held_room n) × (result < 2 ^ 32) }
 {
     2 * (n * n) + 2 * x + row
 }
@@ -35,7 +35,7 @@ fn row_word(n: usize, x: usize, row: usize) -> usize
 // The edges that a cell can make. Whether it is the cell that makes vertex 0 is told by the indices and
 // not by the vertices, which a processor knows later.
 fn named_set(word: u32, written: u32) -> u32
-    ensures { result ≡ namedSet word written }
+    ensures { result ≡ named_set word written }
 {
     if written == 0 {
         (word / 65536) % 4096
@@ -46,27 +46,27 @@ fn named_set(word: u32, written: u32) -> u32
 
 // What the first visit of all makes.
 fn first_made(word: u32, written: u32) -> u32
-    ensures { result ≡ firstMade word written }
+    ensures { result ≡ first_made word written }
 {
     if written == 0 { word / 268435456 } else { 0 }
 }
 
 // What a cell finds, from the word of its place in the layer and in the row that it reads.
 fn held_set(layer: u32, row: u32) -> u32
-    ensures { result ≡ heldSet layer row }
+    ensures { result ≡ held_set layer row }
 {
     ((layer / 16) % 16) | ((row / 4) & 784)
 }
 
 fn new_set(named: u32, held: u32) -> u32
-    ensures { result ≡ newSet named held }
+    ensures { result ≡ new_set named held }
 {
     (named | held) ^ held
 }
 
 fn put_set(work: &mut [u32], at: usize, new: u32)
     requires { (at < length work.old) × (at < 2 ^ 32) }
-    ensures { work.new ≡ putSet work.old at new }
+    ensures { work.new ≡ put_set work.old at new }
 {
     work[at] = work[at] | new;
 }
@@ -90,11 +90,11 @@ pub fn held_cell(
     work: &mut [u32],
     counts: Counts,
 ) -> Counts
-    requires names_value { (names.now ≡ nameWords) × (case < 256) }
+    requires names_value { (names.now ≡ name_words) × (case < 256) }
     requires held_room { HeldRoom n layer row work.old }
     requires x_lt_n { (x < n) × (y < n) }
     requires made_le_written { (counts.made ≤ counts.written) × (counts.written + 15 < 2 ^ 32) }
-    ensures result_after { held work.new result ≡ heldCell n layer row x y (get_or nameWords case 0) (held work.old counts) }
+    ensures result_after { held work.new result ≡ held_cell n layer row x y (get_or name_words case 0) (held work.old counts) }
     ensures written_bound { (result.written ≤ counts.written + 15) × (result.made ≤ result.written) }
 {
     let word = names[case];
@@ -115,8 +115,8 @@ pub fn held_cell(
 
 // At the end of a layer: the words of the row that is read next.
 pub fn clear_held(work: &mut [u32], n: usize, row: usize)
-    requires { (n ≤ 128) × (row ≤ 1) × (heldRoom n ≤ length work.old) }
-    ensures { work.new ≡ clearHeld n row n work.old }
+    requires { (n ≤ 128) × (row ≤ 1) × (held_room n ≤ length work.old) }
+    ensures { work.new ≡ clear_held n row n work.old }
 {
     let mut x: usize = 0;
     while x < n {

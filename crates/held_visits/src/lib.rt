@@ -3,9 +3,9 @@
 ghost use Rattle.std.specs.Prelude.{◌≡◌, List, ℕ, ◌+◌, ◌^◌, ◌≤◌, ◌<◌};
 ghost use Rattle.packed_tables.specs.Unpacked.{unpacked, Edges};
 ghost use Rattle.lent_mesh.specs.declared.Counts.{Counts};
-ghost use Rattle.lent_mesh.specs.Stored.{inHand, CellOf, Coordinates};
+ghost use Rattle.lent_mesh.specs.Stored.{in_hand, CellOf, Coordinates};
 ghost use Rattle.index_cache.specs.Found.{CacheRoom};
-ghost use Rattle.held_visits.specs.CellMemory.{inCell, numberEdge, heldVisit, heldEdges};
+ghost use Rattle.held_visits.specs.CellMemory.{in_cell, number_edge, held_visit, held_edges};
 
 use lent_mesh::Counts;
 
@@ -28,8 +28,8 @@ pub fn make_edge(
     requires cell_of { CellOf samples.now n x y z }
     requires cache_room { CacheRoom n layer row work.old }
     requires edge_bound { (edge < 12) × Coordinates n coordinates.now }
-    ensures { (is : List ℕ) (c : Counts) → inHand (inCell work.new layer row current.new) vertices.new is c
-        ≡ numberEdge n samples.now x y z edge number (inHand (inCell work.old layer row current.old) vertices.old is c) }
+    ensures { (is : List ℕ) (c : Counts) → in_hand (in_cell work.new layer row current.new) vertices.new is c
+        ≡ number_edge n samples.now x y z edge number (in_hand (in_cell work.old layer row current.old) vertices.old is c) }
 {
     index_cache::put(work, n, x, y, layer, row, edge, number);
     current[edge] = number;
@@ -58,7 +58,7 @@ fn visit(
     requires cache_room { CacheRoom n layer row work.old }
     requires edge_bound { (edge < 12) × Coordinates n coordinates.now }
     requires made_bound { (counts.made + 1 < 2 ^ 32) × (counts.written + 1 < 2 ^ 32) }
-    ensures result_after { inHand (inCell work.new layer row current.new) vertices.new indices.new result ≡ heldVisit n samples.now x y z edge (inHand (inCell work.old layer row current.old) vertices.old indices.old counts) }
+    ensures result_after { in_hand (in_cell work.new layer row current.new) vertices.new indices.new result ≡ held_visit n samples.now x y z edge (in_hand (in_cell work.old layer row current.old) vertices.old indices.old counts) }
     ensures written_value { (result.written ≡ counts.written + 1) × (result.made ≤ counts.made + 1) }
 {
     let number = current[edge];
@@ -113,7 +113,7 @@ pub fn visit_all(
     requires cache_room { CacheRoom n layer row work.old }
     requires coordinates { Coordinates n coordinates.now × Edges (unpacked count edges) }
     requires made_le_written { (counts.made ≤ counts.written) × (counts.written + count < 2 ^ 32) }
-    ensures result_after { inHand (inCell work.new layer row current.new) vertices.new indices.new result ≡ heldEdges n samples.now x y z (unpacked count edges) (inHand (inCell work.old layer row current.old) vertices.old indices.old counts) }
+    ensures result_after { in_hand (in_cell work.new layer row current.new) vertices.new indices.new result ≡ held_edges n samples.now x y z (unpacked count edges) (in_hand (in_cell work.old layer row current.old) vertices.old indices.old counts) }
     ensures written_value { (result.written ≡ counts.written + count) × (result.made ≤ result.written) }
 {
     let mut left = count;

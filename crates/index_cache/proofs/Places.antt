@@ -10,10 +10,10 @@ use native.Mathlib.Omega.{arith}
 use lib.Dec.{ltb}
 use lib.ListN.{length, get_or, set}
 use Rattle.walk.specs.Walk.{times}
-use Rattle.walk.specs.Cache.{inLayer, putColumn}
+use Rattle.walk.specs.Cache.{in_layer, put_column}
 use Rattle.walk.proofs.Rank.{place-lt}
-use Rattle.walk_models.specs.CacheMemory.{putLayer, putRow, clearRow}
-use Rattle.index_cache.specs.Found.{CacheRoom, foundAll}
+use Rattle.walk_models.specs.CacheMemory.{put_layer, put_row, clear_row}
+use Rattle.index_cache.specs.Found.{CacheRoom, found_all}
 
 pub room-kept : {n layer row : ℕ} (work next : List ℕ) → length next ≡ length work → CacheRoom n layer row work → CacheRoom n layer row next
 room-kept work next same h = record { most = h.most; layer-le = h.layer-le; row-le = h.row-le; room = omega (arith, h.room, same) }
@@ -25,12 +25,12 @@ place-below n x y l h = (place-lt n x y h.1 h.2, mul-le-mul h.0 h.0)
 -- a store to the layer, then one to the row
 pub put-stored : (n x y l r e i at column place : ℕ) (w u t : List ℕ)
     → at ≡ 8 * (y * n + x) + 4 * l
-    → u ≡ cond (inLayer e) (set w (at + (e - 4)) i) w
+    → u ≡ cond (in_layer e) (set w (at + (e - 4)) i) w
     → place ≡ 8 * (n * n) + 6 * x + 3 * r
-    → column ≡ putColumn e
+    → column ≡ put_column e
     → t ≡ cond (ltb column 3) (set u (place + column) i) u
-    → t ≡ putRow n r x e i (putLayer n l x y e i w)
-unfolding putRow putLayer
+    → t ≡ put_row n r x e i (put_layer n l x y e i w)
+unfolding put_row put_layer
 put-stored n x y l r e i at column place w u t p q a b d = rw (d, b, a, q, p)
 
 -- seven reads
@@ -40,16 +40,16 @@ pub found-read : (n x y l r a b : ℕ) (w : List ℕ)
     → ◌≡◌ {A = List ℕ}
     (get_or w a 0 ∷ get_or w (a + 1) 0 ∷ get_or w (a + 2) 0 ∷ get_or w (a + 3) 0
     ∷ get_or w b 0 ∷ 0 ∷ 0 ∷ 0 ∷ get_or w (b + 1) 0 ∷ get_or w (b + 2) 0 ∷ 0 ∷ 0 ∷ [])
-    (foundAll n x y l r w)
+    (found_all n x y l r w)
 found-read n x y l r a b w p q = rw (p, q, add-zero, add-zero)
 
 -- one place of the row more
-pub clearRow-suc : (n r x at : ℕ) (w u t : List ℕ)
+pub clear_row-suc : (n r x at : ℕ) (w u t : List ℕ)
     → at ≡ 8 * (n * n) + 6 * x + 3 * r
-    → u ≡ clearRow n r x w
+    → u ≡ clear_row n r x w
     → t ≡ set (set (set u at 0) (at + 1) 0) (at + 2) 0
-    → t ≡ clearRow n r (x + 1) w
-unfolding clearRow times
-clearRow-suc n r x at w u t p q d =
-    let turn : t ≡ clearRow n r (suc x) w = rw (d, q, p, add-zero) in
-    turn ∙ ap (λ (k : ℕ). clearRow n r k w) (sym (add-one x))
+    → t ≡ clear_row n r (x + 1) w
+unfolding clear_row times
+clear_row-suc n r x at w u t p q d =
+    let turn : t ≡ clear_row n r (suc x) w = rw (d, q, p, add-zero) in
+    turn ∙ ap (λ (k : ℕ). clear_row n r k w) (sym (add-one x))

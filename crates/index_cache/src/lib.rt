@@ -1,9 +1,9 @@
 // The index cache of index_cache.rs in lent working memory. What is strange in the Rust is kept: number
 // 0 reads as absent. `cells` is left out, for what it holds is never found.
 ghost use Rattle.std.specs.Prelude.{◌≡◌, cond, ◌+◌, ◌-◌, ◌*◌, ◌^◌, ◌≤◌, ◌<◌, ltb, length, set};
-ghost use Rattle.walk.specs.Cache.{inLayer, putColumn};
-ghost use Rattle.walk_models.specs.CacheMemory.{putLayer, putRow, clearRow};
-ghost use Rattle.index_cache.specs.Found.{CacheRoom, foundAll};
+ghost use Rattle.walk.specs.Cache.{in_layer, put_column};
+ghost use Rattle.walk_models.specs.CacheMemory.{put_layer, put_row, clear_row};
+ghost use Rattle.index_cache.specs.Found.{CacheRoom, found_all};
 
 // Where the four words of the place (x, y) in a layer begin.
 fn layer_place(n: usize, x: usize, y: usize, layer: usize) -> usize
@@ -23,7 +23,7 @@ fn row_place(n: usize, x: usize, row: usize) -> usize
 
 // The column of `rows` that `put` writes for an edge; 3 where there is none.
 fn put_column(edge: usize) -> usize
-    ensures { (result ≡ putColumn edge) × (result ≤ 3) }
+    ensures { (result ≡ put_column edge) × (result ≤ 3) }
 {
     match edge {
         6 => 0,
@@ -36,7 +36,7 @@ fn put_column(edge: usize) -> usize
 // The four words of a place in a layer begin at `at`.
 fn put_layer(work: &mut [u32], at: usize, edge: usize, index: u32)
     requires { (at + 4 ≤ length work.old) × (at < 2 ^ 32) }
-    ensures { work.new ≡ cond (inLayer edge) (set work.old (at + (edge - 4)) index) work.old }
+    ensures { work.new ≡ cond (in_layer edge) (set work.old (at + (edge - 4)) index) work.old }
 {
     if edge < 4 {
         return;
@@ -70,7 +70,7 @@ pub fn put(
 )
     requires cache_room { CacheRoom n layer row work.old }
     requires x_lt_n { (x < n) × (y < n) }
-    ensures { work.new ≡ putRow n (1 - row) x edge index (putLayer n (1 - layer) x y edge index work.old) }
+    ensures { work.new ≡ put_row n (1 - row) x edge index (put_layer n (1 - layer) x y edge index work.old) }
 {
     put_layer(work, layer_place(n, x, y, 1 - layer), edge, index);
     put_row(work, row_place(n, x, 1 - row), put_column(edge), index);
@@ -80,7 +80,7 @@ pub fn put(
 pub fn found(work: &[u32], n: usize, x: usize, y: usize, layer: usize, row: usize) -> [u32; 12]
     requires cache_room { CacheRoom n layer row work.now }
     requires x_lt_n { (x < n) × (y < n) }
-    ensures { result ≡ foundAll n x y layer row work.now }
+    ensures { result ≡ found_all n x y layer row work.now }
 {
     let a = layer_place(n, x, y, layer);
     let b = row_place(n, x, row);
@@ -112,7 +112,7 @@ fn clear_three(work: &mut [u32], at: usize)
 // The part of `advance_layer` that clears `rows[0]`.
 pub fn clear_row(work: &mut [u32], n: usize, row: usize)
     requires { (n ≤ 128) × (row ≤ 1) × (8 * (n * n) + 6 * n ≤ length work.old) }
-    ensures { work.new ≡ clearRow n row n work.old }
+    ensures { work.new ≡ clear_row n row n work.old }
 {
     let mut x: usize = 0;
     while x < n {

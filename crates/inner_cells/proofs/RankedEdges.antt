@@ -12,15 +12,15 @@ use borrow.Author.Tests.{eq-eqb, ltb-true}
 use Rattle.marching_cubes_tables.proofs.Tests.{both_left, both_right}
 use Rattle.walk.specs.Walk.{Visit, times}
 use Rattle.walk.specs.Edges.{edge_of}
-use Rattle.walk.proofs.GridEdges.{edgeOf-same}
+use Rattle.walk.proofs.GridEdges.{edge_of-same}
 use Rattle.walk.proofs.OwnedCells.{fold, times-fold}
 use Rattle.walk_models.specs.Lent.{Lent}
-use Rattle.walk_models.specs.Owned.{edgeVisit, slot, makeEdge}
-use Rattle.walk_models.proofs.AnyOrder.{rankedFrom, ranked, apart, sorted, allFree, fold-sorted}
-use Rattle.walk_models.proofs.Window.{Live, edgeOf-live, slot-injective}
+use Rattle.walk_models.specs.Owned.{edge_visit, slot, make_edge}
+use Rattle.walk_models.proofs.AnyOrder.{ranked_from, ranked, apart, sorted, all_free, fold-sorted}
+use Rattle.walk_models.proofs.Window.{Live, edge_of-live, slot-injective}
 use Rattle.packed_tables.specs.Unpacked.{Edges, marked}
 use Rattle.joined_slots.specs.OneCell.{SlotsFrom, each}
-use Rattle.inner_cells.specs.Ranked.{makeRanked, hand}
+use Rattle.inner_cells.specs.Ranked.{make_ranked, hand}
 
 -- ---- two lists, one after the other
 
@@ -73,38 +73,38 @@ apart-known p q t =
     }
 
 module _ {B : Type 0} (store : Visit → ℕ → B → B) (n x y z : ℕ) where
-  abbrev byRank : ℕ → Lent (List ℕ) B → Lent (List ℕ) B
-  byRank = makeRanked store n z y x
+  abbrev by_rank : ℕ → Lent (List ℕ) B → Lent (List ℕ) B
+  by_rank = make_ranked store n z y x
 
   abbrev place : ℕ → ℕ
-  place e = slot n (edge_of (edgeVisit x y z e))
+  place e = slot n (edge_of (edge_visit x y z e))
 
   abbrev counted : ℕ → Lent (List ℕ) B → Lent (List ℕ) B
   counted k w = record { memory = w.memory; vertices = w.vertices; indices = w.indices; made = w.made + k; written = w.written }
 
   -- ---- one edge
 
-  pub marked-absent : (e mark : ℕ) (w : Lent (List ℕ) B) → mark ≤ 0 → w ≡ each byRank (marked e mark) w
+  pub marked-absent : (e mark : ℕ) (w : Lent (List ℕ) B) → mark ≤ 0 → w ≡ each by_rank (marked e mark) w
   unfolding each times
   marked-absent e mark w h = let none : mark ≡ 0 = omega arith in rw none
 
   pub marked-present : (at e mark made written : ℕ) (slots work l v : List ℕ) (b c : B) → SlotsFrom at slots n x y z → e < 12 → 0 < mark
-      → v ≡ set work (at + get_or slots e 0) (made + (mark - 1)) → c ≡ store (edgeVisit x y z e) (made + (mark - 1)) b
-      → hand v c l made written ≡ each byRank (marked e mark) (hand work b l made written)
-  unfolding each times makeRanked
+      → v ≡ set work (at + get_or slots e 0) (made + (mark - 1)) → c ≡ store (edge_visit x y z e) (made + (mark - 1)) b
+      → hand v c l made written ≡ each by_rank (marked e mark) (hand work b l made written)
+  unfolding each times make_ranked
   marked-present at e mark made written slots work l v b c places he some ev ec =
       let rank : ℕ = mark - 1 in
       let is : mark ≡ suc rank = omega arith in
       let edge-is : (e + 16 * rank) % 16 ≡ e = omega arith in
       let rank_is : (e + 16 * rank) / 16 ≡ rank = omega arith in
       ap₂ (λ (m : List ℕ) (d : B). hand m d l made written) (ev ∙ ap (λ (k : ℕ). set work k (made + rank)) (places e he)) ec
-      ∙ ap₂ (λ (i r : ℕ). hand (set work (place i) (made + r)) (store (edgeVisit x y z i) (made + r) b) l made written) (sym edge-is) (sym rank_is)
-      ∙ ap (λ (k : ℕ). each byRank (marked e k) (hand work b l made written)) (sym is)
+      ∙ ap₂ (λ (i r : ℕ). hand (set work (place i) (made + r)) (store (edge_visit x y z i) (made + r) b) l made written) (sym edge-is) (sym rank_is)
+      ∙ ap (λ (k : ℕ). each by_rank (marked e k) (hand work b l made written)) (sym is)
 
   -- ---- in order
 
-  one-ranked : (e k : ℕ) (w : Lent (List ℕ) B) → e < 12 → makeEdge store n z y x e (counted k w) ≡ counted (suc k) (byRank (e + 16 * k) w)
-  unfolding makeEdge makeRanked
+  one-ranked : (e k : ℕ) (w : Lent (List ℕ) B) → e < 12 → make_edge store n z y x e (counted k w) ≡ counted (suc k) (by_rank (e + 16 * k) w)
+  unfolding make_edge make_ranked
   one-ranked e k w h =
       let edge : (e + 16 * k) % 16 ≡ e = omega arith in
       let rank : (e + 16 * k) / 16 ≡ k = omega arith in
@@ -112,14 +112,14 @@ module _ {B : Type 0} (store : Visit → ℕ → B → B) (n x y z : ℕ) where
       rw (edge, rank, one)
 
   ranked-from : (es : List ℕ) (k : ℕ) (w : Lent (List ℕ) B) → Edges es
-      → fold (makeEdge store n z y x) es (counted k w) ≡ counted (k + length es) (fold byRank (rankedFrom k es) w)
+      → fold (make_edge store n z y x) es (counted k w) ≡ counted (k + length es) (fold by_rank (ranked_from k es) w)
   unfolding fold Edges
   ranked-from [] k w h = ap (λ (i : ℕ). counted i w) (sym (add-zero k))
   ranked-from (e ∷ es) k w h =
       let more : suc k + length es ≡ k + suc (length es) = omega arith in
-      ap (fold (makeEdge store n z y x) es) (one-ranked e k w h.0)
-      ∙ ranked-from es (suc k) (byRank (e + 16 * k) w) h.1
-      ∙ ap (λ (i : ℕ). counted i (fold byRank (rankedFrom (suc k) es) (byRank (e + 16 * k) w))) more
+      ap (fold (make_edge store n z y x) es) (one-ranked e k w h.0)
+      ∙ ranked-from es (suc k) (by_rank (e + 16 * k) w) h.1
+      ∙ ap (λ (i : ℕ). counted i (fold by_rank (ranked_from (suc k) es) (by_rank (e + 16 * k) w))) more
 
   -- ---- in any order
 
@@ -127,27 +127,27 @@ module _ {B : Type 0} (store : Visit → ℕ → B → B) (n x y z : ℕ) where
       (stores-exchange : (v u : Visit) (i j : ℕ) (b : B) → (i ≡ j → ⊥) → store v i (store u j b) ≡ store u j (store v i b)) where
     places-differ : (d e : ℕ) → d < 12 → e < 12 → eqb d e ≡ false → place d ≡ place e → ⊥
     places-differ d e hd he f q =
-        let live : (i : ℕ) → i < 12 → Live n z (edge_of (edgeVisit x y z i)) = λ i hi. edgeOf-live n x y z i (omega arith) (omega arith) hi in
-        false≢true (sym f ∙ sym (edgeOf-same x y z d e hd he) ∙ slot-injective n z _ _ (live d hd) (live e he) q)
+        let live : (i : ℕ) → i < 12 → Live n z (edge_of (edge_visit x y z i)) = λ i hi. edge_of-live n x y z i (omega arith) (omega arith) hi in
+        false≢true (sym f ∙ sym (edge_of-same x y z d e hd he) ∙ slot-injective n z _ _ (live d hd) (live e he) q)
 
-    exchange : (p q : ℕ) (w : Lent (List ℕ) B) → T (apart p q) → byRank p (byRank q w) ≡ byRank q (byRank p w)
-    unfolding makeRanked
+    exchange : (p q : ℕ) (w : Lent (List ℕ) B) → T (apart p q) → by_rank p (by_rank q w) ≡ by_rank q (by_rank p w)
+    unfolding make_ranked
     exchange p q w t =
         let a = apart-known p q t in
         ap₂ (λ (m : List ℕ) (b : B). hand m b w.indices w.made w.written)
         (set_comm w.memory (place (q % 16)) (place (p % 16)) (w.made + q / 16) (w.made + p / 16)
         (λ e. places-differ (p % 16) (q % 16) a.first a.second a.edges-differ (sym e)))
-        (stores-exchange (edgeVisit x y z (p % 16)) (edgeVisit x y z (q % 16)) (w.made + p / 16) (w.made + q / 16) w.vertices
+        (stores-exchange (edge_visit x y z (p % 16)) (edge_visit x y z (q % 16)) (w.made + p / 16) (w.made + q / 16) w.vertices
         (λ e. a.ranks-differ (omega arith)))
 
     -- from what is made by marks, once it is counted
-    pub marked-made : (es ps : List ℕ) (before after : Lent (List ℕ) B) → Edges es → T (allFree apart (ranked es)) → sorted (ranked es) ≡ ps
-        → after ≡ each byRank ps before → counted (length es) after ≡ each (makeEdge store n z y x) es before
+    pub marked-made : (es ps : List ℕ) (before after : Lent (List ℕ) B) → Edges es → T (all_free apart (ranked es)) → sorted (ranked es) ≡ ps
+        → after ≡ each by_rank ps before → counted (length es) after ≡ each (make_edge store n z y x) es before
     unfolding each
     marked-made es ps before after known All-apart e h =
         let whole : counted 0 before ≡ before = rw add-zero in
-        ap (counted (length es)) (h ∙ times-fold byRank 0 ps before ∙ ap (λ (l : List ℕ). fold byRank l before) (sym e) ∙ fold-sorted apart byRank exchange (ranked es) before All-apart)
-        ∙ ap (λ (k : ℕ). counted k (fold byRank (ranked es) before)) (sym (zero-add (length es)))
+        ap (counted (length es)) (h ∙ times-fold by_rank 0 ps before ∙ ap (λ (l : List ℕ). fold by_rank l before) (sym e) ∙ fold-sorted apart by_rank exchange (ranked es) before All-apart)
+        ∙ ap (λ (k : ℕ). counted k (fold by_rank (ranked es) before)) (sym (zero-add (length es)))
         ∙ sym (ranked-from es 0 before known)
-        ∙ ap (fold (makeEdge store n z y x) es) whole
-        ∙ sym (times-fold (makeEdge store n z y x) 0 es before)
+        ∙ ap (fold (make_edge store n z y x) es) whole
+        ∙ sym (times-fold (make_edge store n z y x) 0 es before)

@@ -1,10 +1,10 @@
 // The new edges of an inner cell, one with x, y and z all above 0: it can own the edges 5, 6 and 10 alone, so each is
 // taken by itself and the compiler knows its ends and its slot. The numbers are those of the list.
 ghost use Rattle.std.specs.Prelude.{◌≡◌, List, ℕ, ◌+◌, ◌*◌, ◌/◌, ◌^◌, ◌≤◌, ◌<◌, length};
-ghost use Rattle.packed_tables.specs.Unpacked.{marked, upperMarked, innerMarked};
-ghost use Rattle.lent_mesh.specs.Stored.{storeAt, inHand, CellOf, Coordinates};
+ghost use Rattle.packed_tables.specs.Unpacked.{marked, upper_marked, inner_marked};
+ghost use Rattle.lent_mesh.specs.Stored.{store_at, in_hand, CellOf, Coordinates};
 ghost use Rattle.joined_slots.specs.OneCell.{SlotsFrom, each};
-ghost use Rattle.inner_cells.specs.Ranked.{makeRanked, hand};
+ghost use Rattle.inner_cells.specs.Ranked.{make_ranked, hand};
 
 use lent_mesh::Counts;
 
@@ -30,7 +30,7 @@ fn make_marked(
     requires edge_bound { (edge < 12) × (mark ≤ 15) }
     requires n_in_bounds { (8 * (n * n) ≤ length work.old) × (made + 15 < 2 ^ 32) }
     ensures { (l : List ℕ) (written : ℕ) → hand work.new vertices.new l made written
-        ≡ each (makeRanked (storeAt n samples.now) n z y x) (marked edge mark) (hand work.old vertices.old l made written) }
+        ≡ each (make_ranked (store_at n samples.now) n z y x) (marked edge mark) (hand work.old vertices.old l made written) }
 {
     if 0 < mark {
         let number = made + (mark - 1);
@@ -59,7 +59,7 @@ fn make_upper(
     requires coordinates { Coordinates n coordinates.now × SlotsFrom at slots.now n x y z }
     requires n_in_bounds { (8 * (n * n) ≤ length work.old) × (made + 15 < 2 ^ 32) }
     ensures { (l : List ℕ) (written : ℕ) → hand work.new vertices.new l made written
-        ≡ each (makeRanked (storeAt n samples.now) n z y x) (upperMarked word) (hand work.old vertices.old l made written) }
+        ≡ each (make_ranked (store_at n samples.now) n z y x) (upper_marked word) (hand work.old vertices.old l made written) }
 {
     let first = ((word >> 16) % 16) as u32;
     let second = ((word >> 20) % 16) as u32;
@@ -113,8 +113,8 @@ pub fn make_inner(
     requires cell_of { CellOf samples.now n x y z }
     requires coordinates { Coordinates n coordinates.now × SlotsFrom at slots.now n x y z }
     requires n_in_bounds { (8 * (n * n) ≤ length work.old) × (counts.made + 15 < 2 ^ 32) × (word / 2 ^ 60 ≤ 15) }
-    ensures by_index { (l : List ℕ) → inHand work.new vertices.new l counts
-        ≡ each (makeRanked (storeAt n samples.now) n z y x) (innerMarked word) (inHand work.old vertices.old l counts) }
+    ensures by_index { (l : List ℕ) → in_hand work.new vertices.new l counts
+        ≡ each (make_ranked (store_at n samples.now) n z y x) (inner_marked word) (in_hand work.old vertices.old l counts) }
     ensures made_value { (result.made ≡ counts.made + word / 2 ^ 60) × (result.written ≡ counts.written) }
 {
     let made = counts.made;

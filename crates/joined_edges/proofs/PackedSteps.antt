@@ -7,7 +7,7 @@ use lib.ListN.{length, get_or, set}
 use Rattle.walk.specs.Walk.{Visit, times}
 use Rattle.walk.specs.Edges.{edge_of}
 use Rattle.walk.proofs.OwnedCells.{fold, times-fold}
-use Rattle.walk_models.specs.Owned.{edgeVisit, slot, makeEdge, nameEdge}
+use Rattle.walk_models.specs.Owned.{edge_visit, slot, make_edge, name_edge}
 use Rattle.packed_tables.specs.Unpacked.{unpacked, Edges}
 use Rattle.joined_slots.specs.OneCell.{SlotsFrom, each}
 use Rattle.inner_cells.specs.Ranked.{hand}
@@ -57,23 +57,23 @@ module _ {B : Type 0} (store : Visit → ℕ → B → B) (n x y z at : ℕ) (sl
   abbrev place : ℕ
   place = at + get_or slots (rest % 16) 0
 
-  here : slot n (edge_of (edgeVisit x y z (rest % 16))) ≡ place
+  here : slot n (edge_of (edge_visit x y z (rest % 16))) ≡ place
   here = sym (places (rest % 16) (first_edge left rest more es))
 
-  pub make-next : (v : List ℕ) (c : B) → v ≡ set work place made → c ≡ store (edgeVisit x y z (rest % 16)) made b
-      → each (makeEdge store n z y x) (unpacked left rest) (hand work b l made written)
-      ≡ each (makeEdge store n z y x) (unpacked (left - 1) (rest / 16)) (hand v c l (made + 1) written)
-  unfolding makeEdge
+  pub make-next : (v : List ℕ) (c : B) → v ≡ set work place made → c ≡ store (edge_visit x y z (rest % 16)) made b
+      → each (make_edge store n z y x) (unpacked left rest) (hand work b l made written)
+      ≡ each (make_edge store n z y x) (unpacked (left - 1) (rest / 16)) (hand v c l (made + 1) written)
+  unfolding make_edge
   make-next v c ev ec =
-      each_next (makeEdge store n z y x) left rest (hand work b l made written) (hand v c l (made + 1) written) more
+      each_next (make_edge store n z y x) left rest (hand work b l made written) (hand v c l (made + 1) written) more
       (ap₂ (λ (m : List ℕ) (d : B). hand m d l (made + 1) written) (ap (λ (k : ℕ). set work k made) here ∙ sym ev) (sym ec))
 
   pub name-next : (m : List ℕ) → m ≡ set l written (get_or work place 0)
-      → each (nameEdge store n z y x) (unpacked left rest) (hand work b l made written)
-      ≡ each (nameEdge store n z y x) (unpacked (left - 1) (rest / 16)) (hand work b m made (written + 1))
-  unfolding nameEdge
+      → each (name_edge store n z y x) (unpacked left rest) (hand work b l made written)
+      ≡ each (name_edge store n z y x) (unpacked (left - 1) (rest / 16)) (hand work b m made (written + 1))
+  unfolding name_edge
   name-next m e =
-      each_next (nameEdge store n z y x) left rest (hand work b l made written) (hand work b m made (written + 1)) more
+      each_next (name_edge store n z y x) left rest (hand work b l made written) (hand work b m made (written + 1)) more
       (ap (λ (k : ℕ). hand work b (set l written (get_or work k 0)) made (written + 1)) here ∙ ap (λ (o : List ℕ). hand work b o made (written + 1)) (sym e))
 
 -- ---- three at a time
@@ -104,10 +104,10 @@ module _ {B : Type 0} (store : Visit → ℕ → B → B) (n x y z at : ℕ) (sl
 
   pub name-three : (a c d : ℕ) → a ≡ number rest → c ≡ number (rest / 16) → d ≡ number (rest / 16 / 16)
       → (m : List ℕ) → m ≡ set (set (set l written a) (written + 1) c) (written + 2) d
-      → each (nameEdge store n z y x) (unpacked (3 * left) rest) (hand work b l made written)
-      ≡ each (nameEdge store n z y x) (unpacked (3 * (left - 1)) (rest / 16 / 16 / 16)) (hand work b m made (written + 3))
+      → each (name_edge store n z y x) (unpacked (3 * left) rest) (hand work b l made written)
+      ≡ each (name_edge store n z y x) (unpacked (3 * (left - 1)) (rest / 16 / 16 / 16)) (hand work b m made (written + 3))
   name-three a c d ea ec ed m e =
-      let step = nameEdge store n z y x in
+      let step = name_edge store n z y x in
       let two = later-edges (3 * left) rest (omega arith) es in
       let one = later-edges (3 * left - 1) (rest / 16) (omega arith) two in
       let first = set l written a in

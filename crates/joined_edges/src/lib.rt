@@ -1,14 +1,14 @@
 // One cell of the joined walk, in lent memory: its new edges are numbered and their vertices put, then
 // the numbers of its row's edges are written as indices. Both lists come packed, a word for a cell.
 ghost use Rattle.std.specs.Prelude.{◌≡◌, List, ℕ, ◌+◌, ◌*◌, ◌%◌, ◌^◌, ◌≤◌, ◌<◌, eqb, length, get_or, Float};
-ghost use Rattle.marching_cubes_tables.specs.Rule.{rowEdges};
+ghost use Rattle.marching_cubes_tables.specs.Rule.{row_edges};
 ghost use Rattle.walk.specs.Walk.{Visit, Inside, bit, signs};
-ghost use Rattle.walk.specs.Ownership.{newEdges};
-ghost use Rattle.walk_models.specs.Owned.{makeEdge, nameEdge, ownedCell, countCell};
+ghost use Rattle.walk.specs.Ownership.{new_edges};
+ghost use Rattle.walk_models.specs.Owned.{make_edge, name_edge, owned_cell, count_cell};
 ghost use Rattle.packed_tables.specs.Unpacked.{unpacked, Edges};
-ghost use Rattle.packed_tables.specs.Packed.{ownedIn, rowWords, newWords};
-ghost use Rattle.lent_mesh.specs.Grid.{insideOf};
-ghost use Rattle.lent_mesh.specs.Stored.{storeAt, inHand, CellOf, Coordinates};
+ghost use Rattle.packed_tables.specs.Packed.{owned_in, row_words, new_words};
+ghost use Rattle.lent_mesh.specs.Grid.{inside_of};
+ghost use Rattle.lent_mesh.specs.Stored.{store_at, in_hand, CellOf, Coordinates};
 ghost use Rattle.joined_slots.specs.OneCell.{Slots, SlotsFrom, each, class_of, count_of};
 
 use lent_mesh::Counts;
@@ -33,8 +33,8 @@ fn make_all(
     requires coordinates { Coordinates n coordinates.now × SlotsFrom at slots.now n x y z }
     requires edges { Edges (unpacked count list) × (count ≤ 15) }
     requires n_in_bounds { (8 * (n * n) ≤ length work.old) × (counts.made + 15 < 2 ^ 32) }
-    ensures by_index { (l : List ℕ) → inHand work.new vertices.new l result
-        ≡ each (makeEdge (storeAt n samples.now) n z y x) (unpacked count list) (inHand work.old vertices.old l counts) }
+    ensures by_index { (l : List ℕ) → in_hand work.new vertices.new l result
+        ≡ each (make_edge (store_at n samples.now) n z y x) (unpacked count list) (in_hand work.old vertices.old l counts) }
     ensures made_value { (result.made ≡ counts.made + count) × (result.written ≡ counts.written) }
 {
     let written = counts.written;
@@ -76,8 +76,8 @@ fn name_all(
     requires edges { Edges (unpacked (3 * triangles) list) × (3 * triangles ≤ 15) }
     requires by_index { ((e : ℕ) → e < 12 → at + get_or slots.now e 0 < length work.now) × (counts.written + 15 < 2 ^ 32) }
     ensures result_after { (n x y z : ℕ) (store : Visit → ℕ → List Float → List Float) (b : List Float) → SlotsFrom at slots.now n x y z
-        → inHand work.now b indices.new result
-        ≡ each (nameEdge store n z y x) (unpacked (3 * triangles) list) (inHand work.now b indices.old counts) }
+        → in_hand work.now b indices.new result
+        ≡ each (name_edge store n z y x) (unpacked (3 * triangles) list) (in_hand work.now b indices.old counts) }
     ensures made_value { (result.made ≡ counts.made) × (result.written ≡ counts.written + 3 * triangles) }
 {
     let made = counts.made;
@@ -126,12 +126,12 @@ fn make_new(
     counts: Counts,
 ) -> Counts
     requires cell_of { CellOf samples.now n x y z }
-    requires news_value { (news.now ≡ newWords) × (case < 256) × (class < 8) }
+    requires news_value { (news.now ≡ new_words) × (case < 256) × (class < 8) }
     requires coordinates { Coordinates n coordinates.now × SlotsFrom at slots.now n x y z }
     requires n_in_bounds { (8 * (n * n) ≤ length work.old) × (counts.made + 15 < 2 ^ 32) }
-    ensures by_index { (l : List ℕ) → inHand work.new vertices.new l result
-        ≡ each (makeEdge (storeAt n samples.now) n z y x) (newEdges (ownedIn class) (rowEdges case)) (inHand work.old vertices.old l counts) }
-    ensures made_value { (result.made ≡ counts.made + length (newEdges (ownedIn class) (rowEdges case))) × (result.written ≡ counts.written) }
+    ensures by_index { (l : List ℕ) → in_hand work.new vertices.new l result
+        ≡ each (make_edge (store_at n samples.now) n z y x) (new_edges (owned_in class) (row_edges case)) (in_hand work.old vertices.old l counts) }
+    ensures made_value { (result.made ≡ counts.made + length (new_edges (owned_in class) (row_edges case))) × (result.written ≡ counts.written) }
 {
     let word = new_word(news, case, class);
     if (class == 0) & !dense {
@@ -192,11 +192,11 @@ pub fn joined_cell(
     counts: Counts,
 ) -> Counts
     requires cell_of { CellOf samples.now n x y z }
-    requires rows_value { (rows.now ≡ rowWords) × (news.now ≡ newWords) × Coordinates n coordinates.now × Slots n z slots.now }
-    requires case_value { (case ≡ signs (insideOf n samples.now) x y z) × (class ≡ class_of x y z) }
+    requires rows_value { (rows.now ≡ row_words) × (news.now ≡ new_words) × Coordinates n coordinates.now × Slots n z slots.now }
+    requires case_value { (case ≡ signs (inside_of n samples.now) x y z) × (class ≡ class_of x y z) }
     requires n_in_bounds { (8 * (n * n) ≤ length work.old) × (counts.made ≤ counts.written) × (counts.written + 15 < 2 ^ 32) }
-    ensures result_after { inHand work.new vertices.new indices.new result
-        ≡ ownedCell (storeAt n samples.now) n (insideOf n samples.now) z y x (inHand work.old vertices.old indices.old counts) }
+    ensures result_after { in_hand work.new vertices.new indices.new result
+        ≡ owned_cell (store_at n samples.now) n (inside_of n samples.now) z y x (in_hand work.old vertices.old indices.old counts) }
     ensures made_le_written { (result.made ≤ result.written) × (result.written ≤ counts.written + 15) }
 {
     let row = rows[case];
@@ -232,9 +232,9 @@ pub fn joined_cell(
 // What one cell adds to the counts, from its word in `news` alone: the number of its row's triangles
 // stands there too, in the four bits below the highest.
 pub fn joined_counts(news: &[u64; 2048], case: usize, class: usize, counts: Counts) -> Counts
-    requires news_value { (news.now ≡ newWords) × (case < 256) × (class < 8) }
+    requires news_value { (news.now ≡ new_words) × (case < 256) × (class < 8) }
     requires made_le_written { (counts.made ≤ counts.written) × (counts.written + 15 < 2 ^ 32) }
-    ensures result_value { (g : Inside) (x y z : ℕ) → case ≡ signs g x y z → class ≡ class_of x y z → count_of result ≡ countCell g z y x (count_of counts) }
+    ensures result_value { (g : Inside) (x y z : ℕ) → case ≡ signs g x y z → class ≡ class_of x y z → count_of result ≡ count_cell g z y x (count_of counts) }
     ensures made_le_written_2 { (result.made ≤ result.written) × (result.written ≤ counts.written + 15) }
 {
     let fresh = new_word(news, case, class);

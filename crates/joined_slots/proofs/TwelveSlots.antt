@@ -4,10 +4,10 @@ use mathlib.Core.List.{List, [], ◌∷◌}
 use Prim.Native.Nat.{ℕ, zero, suc, ◌+◌, ◌-◌, ◌*◌, ◌%◌, ◌<◌, ◌≤◌}
 use native.Mathlib.Omega.{arith}
 use lib.ListN.{get_or}
-use Rattle.marching_cubes_tables.specs.Tables.{corners, edgeConnection}
-use Rattle.walk.specs.Edges.{axisOf, lowOffset, edge_of}
-use Rattle.walk_models.specs.Owned.{edgeVisit, slot}
-use Rattle.walk_models.proofs.Window.{edgeOf-live, slot_lt}
+use Rattle.marching_cubes_tables.specs.Tables.{corners, edge_connection}
+use Rattle.walk.specs.Edges.{axis_of, low_offset, edge_of}
+use Rattle.walk_models.specs.Owned.{edge_visit, slot}
+use Rattle.walk_models.proofs.Window.{edge_of-live, slot_lt}
 use Rattle.joined_slots.specs.OneCell.{Slots, SlotsFrom}
 
 abbrev twelve : ℕ → ℕ → List ℕ
@@ -17,7 +17,7 @@ twelve n z =
     4 ∷ 12 ∷ (8 * n + 12) ∷ (8 * n + 4) ∷ []
 
 twelve-slots : (n z : ℕ) → Slots n z (twelve n z)
-unfolding Slots slot edge_of axisOf lowOffset corners edgeConnection
+unfolding Slots slot edge_of axis_of low_offset corners edge_connection
 twelve-slots n z x y zero h = omega arith
 twelve-slots n z x y (suc zero) h = omega arith
 twelve-slots n z x y (suc (suc zero)) h = omega arith
@@ -43,7 +43,7 @@ slots-from at n x y z l h e = subst (λ (k : ℕ). SlotsFrom k l n x y z) (sym e
 pub slot-in-work : (at n x y z e size kept : ℕ) (slots : List ℕ) → SlotsFrom at slots n x y z → x + 1 < n → y + 1 < n
     → 8 * (n * n) ≤ size → kept ≡ size → e < 12 → at + get_or slots e 0 < kept
 slot-in-work at n x y z e size kept slots places hx hy room same he =
-    let live = edgeOf-live n x y z e (omega arith) (omega arith) he in
-    let l = slot_lt n z (edge_of (edgeVisit x y z e)) live in
+    let live = edge_of-live n x y z e (omega arith) (omega arith) he in
+    let l = slot_lt n z (edge_of (edge_visit x y z e)) live in
     let p = places e he in
     omega arith

@@ -3,7 +3,7 @@
 use Rattle.std.specs.Prelude.{◌≡◌, List, ℕ, ◌+◌, ◌*◌, ◌<◌, eqb, length, get_or}
 use Rattle.walk.specs.Walk.{bit, times}
 use Rattle.walk.specs.Edges.{edge_of}
-use Rattle.walk_models.specs.Owned.{Count, edgeVisit, slot}
+use Rattle.walk_models.specs.Owned.{Count, edge_visit, slot}
 use Rattle.lent_mesh.specs.declared.Counts.{Counts}
 
 -- a step for each entry of the list, from the first
@@ -12,7 +12,7 @@ each step es s = times (length es) (λ j t. step (get_or es j 0) t) s
 
 -- the slots of the edges of the cell (x, y, z), from the place `at` on
 abbrev pub SlotsFrom : ℕ → List ℕ → ℕ → ℕ → ℕ → ℕ → Type 0
-SlotsFrom at l n x y z = (e : ℕ) → e < 12 → at + get_or l e 0 ≡ slot n (edge_of (edgeVisit x y z e))
+SlotsFrom at l n x y z = (e : ℕ) → e < 12 → at + get_or l e 0 ≡ slot n (edge_of (edge_visit x y z e))
 
 -- the same list serves each cell of the layer z
 unfoldable pub Slots : ℕ → ℕ → List ℕ → Type 0

@@ -9,19 +9,19 @@ use native.Mathlib.Decide.{dec_lt}
 use lib.Dec.{eqb, ltb}
 use lib.ListN.{length}
 use borrow.Author.Tests.{lt-ltb, le-ltb, ne_eqb}
-use Rattle.walk.specs.Walk.{Inside, cellEdges, times}
-use Rattle.walk.specs.Ownership.{owned, newEdges}
-use Rattle.walk.proofs.EightSigns.{cellEdges-byte}
-use Rattle.walk.proofs.CellEdges.{cellEdges-threes}
-use Rattle.walk.proofs.NewEdges.{newEdges-length-le}
-use Rattle.walk_models.specs.Owned.{Count, cellNew, countCell}
+use Rattle.walk.specs.Walk.{Inside, cell_edges, times}
+use Rattle.walk.specs.Ownership.{owned, new_edges}
+use Rattle.walk.proofs.EightSigns.{cell_edges-byte}
+use Rattle.walk.proofs.CellEdges.{cell_edges-threes}
+use Rattle.walk.proofs.NewEdges.{new_edges-length-le}
+use Rattle.walk_models.specs.Owned.{Count, cell_new, count_cell}
 use Rattle.sign_cells.specs.Cells.{cells_in}
 use Rattle.cell_tally.specs.declared.Corners.{Corners}
 use Rattle.corner_signs.specs.Signs.{row_of}
-use Rattle.cell_tally.specs.Tally.{total, is_set, inMask, ofSigns, trianglesIn, newIn}
-use Rattle.cell_tally.proofs.Sums.{total-same, total-times, total_mono, inMask-times}
+use Rattle.cell_tally.specs.Tally.{total, is_set, in_mask, of_signs, triangles_in, new_in}
+use Rattle.cell_tally.proofs.Sums.{total-same, total-times, total_mono, in_mask-times}
 use Rattle.corner_signs.proofs.Identities.{row-threes}
-use Rattle.layer_tally.specs.Layer.{SignsOf, wordStep}
+use Rattle.layer_tally.specs.Layer.{SignsOf, word_step}
 
 -- a sum of which only the first m terms count
 total-cut : (f h : ℕ → ℕ) (b : ℕ → Bool) (m d : ℕ) → ((j : ℕ) → j < m → b j ≡ true) → ((j : ℕ) → m ≤ j → j < m + d → b j ≡ false)
@@ -36,17 +36,17 @@ total-cut f h b m (suc d) set unset same =
     ∙ add-zero (total h m)
 
 -- no more edges are new than a row names
-pub new-most : (c : Corners) (mask first top : ℕ) → newIn c mask first top ≤ 3 * trianglesIn c mask
+pub new-most : (c : Corners) (mask first top : ℕ) → new_in c mask first top ≤ 3 * triangles_in c mask
 new-most c mask first top =
-    let thrice = inMask-times mask 3 (λ i. length (ofSigns row_of c i) / 3) in
+    let thrice = in_mask-times mask 3 (λ i. length (of_signs row_of c i) / 3) in
     omega (arith, thrice, total_mono _ _ 32 (λ i l. each (is_set mask i) i))
   where
     each : (b : Bool) (i : ℕ)
-        → cond b (length (newEdges (owned (is_set first i) (is_set top i) false) (ofSigns row_of c i))) 0 ≤ cond b (3 * (length (ofSigns row_of c i) / 3)) 0
+        → cond b (length (new_edges (owned (is_set first i) (is_set top i) false) (of_signs row_of c i))) 0 ≤ cond b (3 * (length (of_signs row_of c i) / 3)) 0
     each true i =
         omega (
           arith,
-          newEdges-length-le (owned (is_set first i) (is_set top i) false) (ofSigns row_of c i),
+          new_edges-length-le (owned (is_set first i) (is_set top i) false) (of_signs row_of c i),
           row-threes (is_set c.c0 i) (is_set c.c1 i) (is_set c.c2 i) (is_set c.c3 i) (is_set c.c4 i) (is_set c.c5 i) (is_set c.c6 i) (is_set c.c7 i),
         )
     each false i = omega arith
@@ -54,11 +54,11 @@ new-most c mask first top =
 module _ (g : Inside) (n y z k : ℕ) (c : Corners) (mask : ℕ)
     (signs : (j : ℕ) → j < 32 → 32 * k + j + 1 < n → SignsOf g (32 * k + j) y z c j)
     (masked : (j : ℕ) → j < 32 → is_set mask j ≡ ltb (32 * k + j + 1) n) where
-  row_is : (j : ℕ) → SignsOf g (32 * k + j) y z c j → ofSigns row_of c j ≡ cellEdges g (32 * k + j) y z
-  row_is j s = rw (s.s0, s.s1, s.s2, s.s3, s.s4, s.s5, s.s6, s.s7) (sym (cellEdges-byte g (32 * k + j) y z))
+  row_is : (j : ℕ) → SignsOf g (32 * k + j) y z c j → of_signs row_of c j ≡ cell_edges g (32 * k + j) y z
+  row_is j s = rw (s.s0, s.s1, s.s2, s.s3, s.s4, s.s5, s.s6, s.s7) (sym (cell_edges-byte g (32 * k + j) y z))
 
   -- over the cells of the word
-  cut_at : (f h : ℕ → ℕ) → ((j : ℕ) → j < 32 → 32 * k + j + 1 < n → f j ≡ h j) → inMask mask f ≡ total h (cells_in n k)
+  cut_at : (f h : ℕ → ℕ) → ((j : ℕ) → j < 32 → 32 * k + j + 1 < n → f j ≡ h j) → in_mask mask f ≡ total h (cells_in n k)
   cut_at f h same =
       let all : cells_in n k + (32 - cells_in n k) ≡ 32 = omega arith in
       ap (total (λ j. cond (is_set mask j) (f j) 0)) (sym all)
@@ -67,33 +67,33 @@ module _ (g : Inside) (n y z k : ℕ) (c : Corners) (mask : ℕ)
       (λ j a l. masked j (omega arith) ∙ le-ltb (32 * k + j + 1) n (omega arith))
       (λ j l. same j (omega arith) (omega arith))
 
-  pub triangles-word : 3 * trianglesIn c mask ≡ total (λ j. length (cellEdges g (32 * k + j) y z)) (cells_in n k)
+  pub triangles-word : 3 * triangles_in c mask ≡ total (λ j. length (cell_edges g (32 * k + j) y z)) (cells_in n k)
   triangles-word =
-      inMask-times mask 3 (λ i. length (ofSigns row_of c i) / 3)
+      in_mask-times mask 3 (λ i. length (of_signs row_of c i) / 3)
       ∙ cut_at _ _
       (λ j l h.
       ap (λ (r : List ℕ). 3 * (length r / 3)) (row_is j (signs j l h))
-      ∙ (let threes = cellEdges-threes g (32 * k + j) y z in omega (arith, threes)))
+      ∙ (let threes = cell_edges-threes g (32 * k + j) y z in omega (arith, threes)))
 
   pub new_word : (first top : ℕ) → 0 < z → ((j : ℕ) → j < 32 → is_set first j ≡ eqb (32 * k + j) 0) → ((j : ℕ) → j < 32 → is_set top j ≡ eqb y 0)
-      → newIn c mask first top ≡ total (λ j. length (cellNew g (32 * k + j) y z)) (cells_in n k)
-  unfolding cellNew
+      → new_in c mask first top ≡ total (λ j. length (cell_new g (32 * k + j) y z)) (cells_in n k)
+  unfolding cell_new
   new_word first top above firsts tops =
       cut_at _ _
       (λ j l h.
-      ap (λ (r : List ℕ). length (newEdges (owned (is_set first j) (is_set top j) false) r)) (row_is j (signs j l h))
-      ∙ ap₂ (λ (p q : Bool). length (newEdges (owned p q false) (cellEdges g (32 * k + j) y z))) (firsts j l) (tops j l)
-      ∙ ap (λ (b : Bool). length (newEdges (owned (eqb (32 * k + j) 0) (eqb y 0) b) (cellEdges g (32 * k + j) y z))) (sym (ne_eqb z 0 (λ e. omega arith))))
+      ap (λ (r : List ℕ). length (new_edges (owned (is_set first j) (is_set top j) false) r)) (row_is j (signs j l h))
+      ∙ ap₂ (λ (p q : Bool). length (new_edges (owned p q false) (cell_edges g (32 * k + j) y z))) (firsts j l) (tops j l)
+      ∙ ap (λ (b : Bool). length (new_edges (owned (eqb (32 * k + j) 0) (eqb y 0) b) (cell_edges g (32 * k + j) y z))) (sym (ne_eqb z 0 (λ e. omega arith))))
 
 -- cell after cell
 pub cells-counted : (g : Inside) (z y from m : ℕ) (t : Count)
-    → times m (λ j c. countCell g z y (from + j) c) t
+    → times m (λ j c. count_cell g z y (from + j) c) t
     ≡ record {
-      made = t.made + total (λ j. length (cellNew g (from + j) y z)) m;
-      written = t.written + total (λ j. length (cellEdges g (from + j) y z)) m;
+      made = t.made + total (λ j. length (cell_new g (from + j) y z)) m;
+      written = t.written + total (λ j. length (cell_edges g (from + j) y z)) m;
     }
 unfolding times total
 cells-counted g z y from zero t = ap₂ (λ (a b : ℕ). record { made = a; written = b }) (sym (add-zero t.made)) (sym (add-zero t.written))
 cells-counted g z y from (suc m) t =
-    ap (countCell g z y (from + m)) (cells-counted g z y from m t)
+    ap (count_cell g z y (from + m)) (cells-counted g z y from m t)
     ∙ ap₂ (λ (a b : ℕ). record { made = a; written = b }) (add_assoc _ _ _) (add_assoc _ _ _)

@@ -13,15 +13,15 @@ use lib.Ieee.{Float}
 use borrow.Author.Tests.{lt-ltb}
 use Rattle.marching_cubes_tables.specs.Rule.{bit_at}
 use Rattle.walk.specs.Walk.{bit}
-use Rattle.lent_mesh.specs.Grid.{insideOf}
-use Rattle.sign_words.specs.Words.{insideRow, LayerWords}
-use Rattle.sign_words.proofs.Words.{wordOf-bit}
+use Rattle.lent_mesh.specs.Grid.{inside_of}
+use Rattle.sign_words.specs.Words.{inside_row, LayerWords}
+use Rattle.sign_words.proofs.Words.{word_of-bit}
 use Rattle.sign_words.proofs.OneBit.{or-bit, shift-bit, multiple-bit}
 use Rattle.cell_tally.specs.declared.Corners.{Corners}
 use Rattle.cell_tally.specs.Tally.{is_set}
-use Rattle.cell_tally.proofs.SetBits.{isSet-bit}
+use Rattle.cell_tally.proofs.SetBits.{is_set-bit}
 use Rattle.layer_tally.specs.Layer.{NextFrom, CornersFrom}
-use Rattle.layer_tally.proofs.MaskBits.{isSet-of}
+use Rattle.layer_tally.proofs.MaskBits.{is_set-of}
 
 or-none : (p : Bool) → p || false ≡ p
 or-none true = refl
@@ -30,27 +30,27 @@ or-none false = refl
 -- ---- the right neighbours
 
 module _ (word next : ℕ) where
-  abbrev nextWord : ℕ
-  nextWord = bit_or (word / 2 ^ 1) (next % 2 * 2 ^ 31)
+  abbrev next_word : ℕ
+  next_word = bit_or (word / 2 ^ 1) (next % 2 * 2 ^ 31)
 
-  next-inner : (j : ℕ) → j < 31 → is_set nextWord j ≡ is_set word (j + 1)
+  next-inner : (j : ℕ) → j < 31 → is_set next_word j ≡ is_set word (j + 1)
   next-inner j h =
-      isSet-of nextWord j (is_set word (j + 1))
+      is_set-of next_word j (is_set word (j + 1))
       (or-bit (word / 2 ^ 1) (next % 2 * 2 ^ 31) j (is_set word (j + 1)) false
-      (shift-bit word j ∙ isSet-bit word (j + 1))
+      (shift-bit word j ∙ is_set-bit word (j + 1))
       (multiple-bit (next % 2) 31 j h)
       ∙ ap bit (or-none (is_set word (j + 1))))
 
-  next_last : word < 2 ^ 32 → is_set nextWord 31 ≡ is_set next 0
+  next_last : word < 2 ^ 32 → is_set next_word 31 ≡ is_set next 0
   next_last l =
       let small : next % 2 < 2 = mod-lt next (omega arith) in
-      isSet-of nextWord 31 (is_set next 0)
+      is_set-of next_word 31 (is_set next 0)
       (or-bit (word / 2 ^ 1) (next % 2 * 2 ^ 31) 31 false (is_set next 0)
       (shift-bit word 31 ∙ ap (λ (x : ℕ). x % 2) (div-eq_of_lt l))
       (ap (λ (x : ℕ). x % 2) (mul-div_cancel (next % 2) (pow_pos 31))
       ∙ mod-eq_of_lt small
       ∙ ap (λ (x : ℕ). x % 2) (sym (div-one next))
-      ∙ isSet-bit next 0))
+      ∙ is_set-bit next 0))
 
   pub next-from : word < 2 ^ 32 → NextFrom word next (bit_or (word / 2 ^ 1) (next % 2 * 2 ^ 31 % 2 ^ 32))
   next-from l =
@@ -62,30 +62,30 @@ module _ (word next : ℕ) where
 
 module _ (n : ℕ) (samples : List Float) (words : List ℕ) (y z : ℕ) (layer : LayerWords n samples z words) (in-y : y < n) (most : n ≤ 128) where
   -- a bit of one of the row's words
-  word-sign : (at k j : ℕ) → at ≡ 4 * y + k → k < 4 → j < 32 → 32 * k + j < n → is_set (get_or words at 0) j ≡ insideOf n samples (32 * k + j) y z
+  word-sign : (at k j : ℕ) → at ≡ 4 * y + k → k < 4 → j < 32 → 32 * k + j < n → is_set (get_or words at 0) j ≡ inside_of n samples (32 * k + j) y z
   word-sign at k j e in_row h l =
-      isSet-of (get_or words at 0) j (insideOf n samples (32 * k + j) y z)
+      is_set-of (get_or words at 0) j (inside_of n samples (32 * k + j) y z)
       (ap (λ (w : ℕ). bit_at w j) (ap (λ (a : ℕ). get_or words a 0) e ∙ layer y k in-y in_row)
-      ∙ wordOf-bit (λ i. insideRow n samples y z (32 * k + i)) 32 j h
-      ∙ ap (λ (t : Bool). bit (t && insideOf n samples (32 * k + j) y z)) (lt-ltb (32 * k + j) n l))
+      ∙ word_of-bit (λ i. inside_row n samples y z (32 * k + i)) 32 j h
+      ∙ ap (λ (t : Bool). bit (t && inside_of n samples (32 * k + j) y z)) (lt-ltb (32 * k + j) n l))
 
   -- and the sign to the right of it
   next-sign : (at k j r : ℕ) → NextFrom (get_or words at 0) (get_or words (at + 1) 0) r → at ≡ 4 * y + k → k < 4 → j < 32 → 32 * k + j + 1 < n
-      → is_set r j ≡ insideOf n samples (32 * k + j + 1) y z
+      → is_set r j ≡ inside_of n samples (32 * k + j + 1) y z
   next-sign at k j r from e in_row h l =
       elim (dec_lt j 31) [
         | yes lt ↦
             let right : 32 * k + (j + 1) ≡ 32 * k + j + 1 = omega arith in
             from.inner j lt
             ∙ word-sign at k (j + 1) e in_row (omega arith) (omega arith)
-            ∙ ap (λ (x : ℕ). insideOf n samples x y z) right
+            ∙ ap (λ (x : ℕ). inside_of n samples x y z) right
         | no ge ↦
             let end : j ≡ 31 = omega arith in
             let right : 32 * (k + 1) + 0 ≡ 32 * k + j + 1 = omega arith in
             ap (λ (i : ℕ). is_set r i) end
             ∙ from.last
             ∙ word-sign (at + 1) (k + 1) 0 (omega arith) (omega arith) (omega arith) (omega arith)
-            ∙ ap (λ (x : ℕ). insideOf n samples x y z) right
+            ∙ ap (λ (x : ℕ). inside_of n samples x y z) right
       ]
 
 -- the words of the corners in the order of the corners

@@ -14,40 +14,40 @@ use borrow.Author.Tests.{lt-ltb, le-ltb, ne_eqb}
 use Rattle.marching_cubes_tables.specs.Rule.{bit_at}
 use Rattle.walk.specs.Walk.{bit}
 use Rattle.sign_words.specs.Words.{word_of}
-use Rattle.sign_words.proofs.Words.{wordOf-bit, wordOf-of-bits, wordOf-top}
+use Rattle.sign_words.proofs.Words.{word_of-bit, word_of-of-bits, word_of-top}
 use Rattle.sign_words.proofs.KeptBits.{every}
 use Rattle.sign_cells.specs.Cells.{cells_in}
 use Rattle.cell_tally.specs.Tally.{is_set}
 use Rattle.cell_tally.proofs.SetBits.{bit-set}
 use Rattle.layer_tally.specs.Layer.{Firsts}
 
-pub isSet-of : (w i : ℕ) (p : Bool) → bit_at w i ≡ bit p → is_set w i ≡ p
-isSet-of w i p e = ap (λ (x : ℕ). eqb x 1) e ∙ bit-set p
+pub is_set-of : (w i : ℕ) (p : Bool) → bit_at w i ≡ bit p → is_set w i ≡ p
+is_set-of w i p e = ap (λ (x : ℕ). eqb x 1) e ∙ bit-set p
 
 -- ---- the cells of a word
 
 pub every_set : (j : ℕ) → j < 32 → is_set 0xFFFF_FFFF j ≡ true
-every_set j h = isSet-of 0xFFFF_FFFF j true (ap (λ (w : ℕ). bit_at w j) (sym every) ∙ wordOf-bit (λ i. true) 32 j h)
+every_set j h = is_set-of 0xFFFF_FFFF j true (ap (λ (w : ℕ). bit_at w j) (sym every) ∙ word_of-bit (λ i. true) 32 j h)
 
 module _ (n k : ℕ) where
-  abbrev isCell : ℕ → Bool
-  isCell j = ltb (32 * k + j + 1) n
+  abbrev is_cell : ℕ → Bool
+  is_cell j = ltb (32 * k + j + 1) n
 
-  cells : 0xFFFF_FFFF % 2 ^ cells_in n k ≡ word_of isCell 32
+  cells : 0xFFFF_FFFF % 2 ^ cells_in n k ≡ word_of is_cell 32
   cells =
-      let some : 0xFFFF_FFFF % 2 ^ cells_in n k ≡ word_of isCell (cells_in n k) =
-      wordOf-of-bits 0xFFFF_FFFF (cells_in n k) isCell
+      let some : 0xFFFF_FFFF % 2 ^ cells_in n k ≡ word_of is_cell (cells_in n k) =
+      word_of-of-bits 0xFFFF_FFFF (cells_in n k) is_cell
       (λ i l.
       ap (λ (w : ℕ). bit_at w i) (sym every)
-      ∙ wordOf-bit (λ j. true) 32 i (omega arith)
+      ∙ word_of-bit (λ j. true) 32 i (omega arith)
       ∙ ap bit (sym (lt-ltb (32 * k + i + 1) n (omega arith)))) in
-      let rest : word_of isCell (cells_in n k + (32 - cells_in n k)) ≡ word_of isCell (cells_in n k) =
-      wordOf-top isCell (cells_in n k) (32 - cells_in n k) (λ i a b. le-ltb (32 * k + i + 1) n (omega arith)) in
+      let rest : word_of is_cell (cells_in n k + (32 - cells_in n k)) ≡ word_of is_cell (cells_in n k) =
+      word_of-top is_cell (cells_in n k) (32 - cells_in n k) (λ i a b. le-ltb (32 * k + i + 1) n (omega arith)) in
       let all : cells_in n k + (32 - cells_in n k) ≡ 32 = omega arith in
-      some ∙ sym rest ∙ ap (word_of isCell) all
+      some ∙ sym rest ∙ ap (word_of is_cell) all
 
   pub mask-bits : (r : ℕ) → r ≡ 0xFFFF_FFFF % 2 ^ cells_in n k → (j : ℕ) → j < 32 → is_set r j ≡ ltb (32 * k + j + 1) n
-  mask-bits r e j h = isSet-of r j (isCell j) (ap (λ (w : ℕ). bit_at w j) (e ∙ cells) ∙ wordOf-bit isCell 32 j h)
+  mask-bits r e j h = is_set-of r j (is_cell j) (ap (λ (w : ℕ). bit_at w j) (e ∙ cells) ∙ word_of-bit is_cell 32 j h)
 
 -- the first words are made
 abbrev pub MasksMade : ℕ → ℕ → List ℕ → Type 0
@@ -86,10 +86,10 @@ one_set : (j : ℕ) → is_set 1 j ≡ eqb j 0
 one_set zero = refl
 one_set (suc j) =
     let above : 1 < 2 ^ suc j = omega (arith, pow-suc 2 j, pow_pos j) in
-    isSet-of 1 (suc j) false (ap (λ (x : ℕ). x % 2) (div-eq_of_lt above)) ∙ sym (ne_eqb (suc j) 0 (λ q. omega (arith, q)))
+    is_set-of 1 (suc j) false (ap (λ (x : ℕ). x % 2) (div-eq_of_lt above)) ∙ sym (ne_eqb (suc j) 0 (λ q. omega (arith, q)))
 
 pub none-set : (j : ℕ) → is_set 0 j ≡ false
-none-set j = isSet-of 0 j false (ap (λ (x : ℕ). x % 2) (div-eq_of_lt (pow_pos j)))
+none-set j = is_set-of 0 j false (ap (λ (x : ℕ). x % 2) (div-eq_of_lt (pow_pos j)))
 
 pub firsts-all : (all : List ℕ) → FirstsMade 128 all → Firsts all
 firsts-all all made i j h in-word =

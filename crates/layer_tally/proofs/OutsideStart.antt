@@ -5,8 +5,8 @@ use mathlib.Core.List.{List, []}
 use Prim.Native.Nat.{ℕ, ◌+◌, ◌≤◌, ◌<◌}
 use native.Mathlib.Omega.{arith}
 use native.Mathlib.Decide.{dec_lt}
-use Rattle.walk.specs.Walk.{cellEdges}
-use Rattle.lent_mesh.specs.Grid.{insideOf}
+use Rattle.walk.specs.Walk.{cell_edges}
+use Rattle.lent_mesh.specs.Grid.{inside_of}
 use Rattle.sign_cells.specs.Cells.{OutsideFrom}
 use Rattle.layer_tally.specs.Layer.{RowsOutside}
 
@@ -17,5 +17,5 @@ rows-turn low high n y r most in-y before row t samples z low-words high-words x
       | yes lt ↦ before samples z low-words high-words x k lt in-x
       | no ge ↦
           let q : y ≡ k = omega arith in
-          subst (λ (m : ℕ). cellEdges (insideOf n samples) x m z ≡ []) q (row t n samples z low-words high-words most in-y x in-x)
+          subst (λ (m : ℕ). cell_edges (inside_of n samples) x m z ≡ []) q (row t n samples z low-words high-words most in-y x in-x)
     ]

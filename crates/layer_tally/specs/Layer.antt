@@ -1,9 +1,9 @@
 -- The cells of a layer word by word: row y has the words 4 * y to 4 * y + 3, of 32 cells each. A private model, which the contracts of the count cite; nobody
 -- need believe it.
 use Rattle.std.specs.Prelude.{◌≡◌, Bool, ◌&&◌, List, [], ℕ, ◌+◌, ◌-◌, ◌*◌, ◌/◌, ◌%◌, ◌≤◌, ◌<◌, eqb, ltb, get_or, Float}
-use Rattle.walk.specs.Walk.{Inside, cellEdges, times}
-use Rattle.walk_models.specs.Owned.{Count, countCell, cellsOfLayer}
-use Rattle.lent_mesh.specs.Grid.{insideOf}
+use Rattle.walk.specs.Walk.{Inside, cell_edges, times}
+use Rattle.walk_models.specs.Owned.{Count, count_cell, cells_of_layer}
+use Rattle.lent_mesh.specs.Grid.{inside_of}
 use Rattle.sign_words.specs.Words.{LayerWords}
 use Rattle.sign_cells.specs.Cells.{cells_in}
 use Rattle.cell_tally.specs.declared.Corners.{Corners}
@@ -38,26 +38,26 @@ abbrev pub CornersFrom : List ℕ → List ℕ → ℕ → Corners → Type 0
 CornersFrom low high at c =
     (n : ℕ) (samples : List Float) (y z k : ℕ) → at ≡ 4 * y + k → k < 4 → n ≤ 128 → y + 1 < n
     → LayerWords n samples z low → LayerWords n samples (z + 1) high
-    → (j : ℕ) → j < 32 → 32 * k + j + 1 < n → SignsOf (insideOf n samples) (32 * k + j) y z c j
+    → (j : ℕ) → j < 32 → 32 * k + j + 1 < n → SignsOf (inside_of n samples) (32 * k + j) y z c j
 
 -- the cells of word i are counted
-unfoldable pub wordStep : Inside → ℕ → ℕ → ℕ → Count → Count
-wordStep g n z i t = times (cells_in n (i % 4)) (λ j c. countCell g z (i / 4) (32 * (i % 4) + j) c) t
+unfoldable pub word_step : Inside → ℕ → ℕ → ℕ → Count → Count
+word_step g n z i t = times (cells_in n (i % 4)) (λ j c. count_cell g z (i / 4) (32 * (i % 4) + j) c) t
 
 -- the words from one place up to another, above the lowest layer; `top` is every bit in row 0 and none elsewhere
 abbrev pub WordsCounted : List ℕ → List ℕ → ℕ → ℕ → ℕ → ℕ → Count → Count → Type 0
 WordsCounted low high n from to top before after =
     (samples : List Float) (z : ℕ) → LayerWords n samples z low → LayerWords n samples (z + 1) high → 0 < z
     → ((i j : ℕ) → from ≤ i → i < to → j < 32 → is_set top j ≡ eqb (i / 4) 0)
-    → after ≡ times (to - from) (λ i t. wordStep (insideOf n samples) n z (from + i) t) before
+    → after ≡ times (to - from) (λ i t. word_step (inside_of n samples) n z (from + i) t) before
 
 -- no cell of the first rows visits anything
 abbrev pub RowsOutside : List ℕ → List ℕ → ℕ → ℕ → Type 0
 RowsOutside low high n rows =
     (samples : List Float) (z : ℕ) → LayerWords n samples z low → LayerWords n samples (z + 1) high
-    → (x y : ℕ) → y < rows → x + 1 < n → cellEdges (insideOf n samples) x y z ≡ []
+    → (x y : ℕ) → y < rows → x + 1 < n → cell_edges (inside_of n samples) x y z ≡ []
 
 abbrev pub LayerCounted : List ℕ → List ℕ → ℕ → Count → Count → Type 0
 LayerCounted low high n before after =
     (samples : List Float) (z : ℕ) → LayerWords n samples z low → LayerWords n samples (z + 1) high → 0 < z
-    → after ≡ cellsOfLayer (countCell (insideOf n samples)) n z (n - 1) before
+    → after ≡ cells_of_layer (count_cell (inside_of n samples)) n z (n - 1) before

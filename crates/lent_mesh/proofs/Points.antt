@@ -1,4 +1,4 @@
--- `putPoint` by whether there is room, and that two vertices may be put in either order.
+-- `put_point` by whether there is room, and that two vertices may be put in either order.
 use mathlib.Core.Path.{◌≡◌, refl, sym, ap, ◌∙◌}
 use mathlib.Core.Bool.{Bool, true, false, cond}
 use lib.Dec.{ltb}
@@ -10,20 +10,20 @@ use lib.Ieee.{Float}
 use mathlib.Core.List.{List}
 use borrow.Author.Tests.{lt-ltb, le-ltb}
 use Rattle.marching_cubes_impl.specs.declared.vertex.Vertex.{Vertex}
-use Rattle.lent_mesh.specs.Stored.{putPoint}
+use Rattle.lent_mesh.specs.Stored.{put_point}
 
-pub putPoint-room : (floats : List Float) (k : ℕ) (p : Vertex) → 3 * k + 2 < length floats
-    → putPoint floats k p ≡ set (set (set floats (3 * k) p.x) (3 * k + 1) p.y) (3 * k + 2) p.z
-unfolding putPoint
-putPoint-room floats k p h = rw (lt-ltb (3 * k + 2) (length floats) h)
+pub put_point-room : (floats : List Float) (k : ℕ) (p : Vertex) → 3 * k + 2 < length floats
+    → put_point floats k p ≡ set (set (set floats (3 * k) p.x) (3 * k + 1) p.y) (3 * k + 2) p.z
+unfolding put_point
+put_point-room floats k p h = rw (lt-ltb (3 * k + 2) (length floats) h)
 
-pub putPoint-full : (floats : List Float) (k : ℕ) (p : Vertex) → length floats ≤ 3 * k + 2 → putPoint floats k p ≡ floats
-unfolding putPoint
-putPoint-full floats k p h = rw (le-ltb (3 * k + 2) (length floats) h)
+pub put_point-full : (floats : List Float) (k : ℕ) (p : Vertex) → length floats ≤ 3 * k + 2 → put_point floats k p ≡ floats
+unfolding put_point
+put_point-full floats k p h = rw (le-ltb (3 * k + 2) (length floats) h)
 
-pub putPoint-length : (floats : List Float) (k : ℕ) (p : Vertex) → length (putPoint floats k p) ≡ length floats
-unfolding putPoint
-putPoint-length floats k p = kept (ltb (3 * k + 2) (length floats))
+pub put_point-length : (floats : List Float) (k : ℕ) (p : Vertex) → length (put_point floats k p) ≡ length floats
+unfolding put_point
+put_point-length floats k p = kept (ltb (3 * k + 2) (length floats))
   where
     kept : (b : Bool) → length (cond b (set (set (set floats (3 * k) p.x) (3 * k + 1) p.y) (3 * k + 2) p.z) floats) ≡ length floats
     kept true = simp length-set
@@ -60,14 +60,14 @@ put-put true false floats i j p q h = refl
 put-put false true floats i j p q h = refl
 put-put false false floats i j p q h = refl
 
-putPoint-twice : (floats : List Float) (i j : ℕ) (p q : Vertex)
-    → putPoint (putPoint floats i p) j q ≡ put (ltb (3 * j + 2) (length floats)) (put (ltb (3 * i + 2) (length floats)) floats i p) j q
-unfolding putPoint
-putPoint-twice floats i j p q = ap (λ (k : ℕ). put (ltb (3 * j + 2) k) (putPoint floats i p) j q) (putPoint-length floats i p)
+put_point-twice : (floats : List Float) (i j : ℕ) (p q : Vertex)
+    → put_point (put_point floats i p) j q ≡ put (ltb (3 * j + 2) (length floats)) (put (ltb (3 * i + 2) (length floats)) floats i p) j q
+unfolding put_point
+put_point-twice floats i j p q = ap (λ (k : ℕ). put (ltb (3 * j + 2) k) (put_point floats i p) j q) (put_point-length floats i p)
 
-pub putPoint-exchange : (floats : List Float) (i j : ℕ) (p q : Vertex) → (i ≡ j → ⊥)
-    → putPoint (putPoint floats i p) j q ≡ putPoint (putPoint floats j q) i p
-putPoint-exchange floats i j p q h =
-    putPoint-twice floats i j p q
+pub put_point-exchange : (floats : List Float) (i j : ℕ) (p q : Vertex) → (i ≡ j → ⊥)
+    → put_point (put_point floats i p) j q ≡ put_point (put_point floats j q) i p
+put_point-exchange floats i j p q h =
+    put_point-twice floats i j p q
     ∙ put-put (ltb (3 * i + 2) (length floats)) (ltb (3 * j + 2) (length floats)) floats i j p q h
-    ∙ sym (putPoint-twice floats j i q p)
+    ∙ sym (put_point-twice floats j i q p)

@@ -3,24 +3,24 @@
 use Rattle.std.specs.Prelude.{cond, ◌≡◌, List, ℕ, ◌+◌, ◌*◌, ◌≤◌, ◌<◌, ltb, length, get_or, set, Float}
 use Rattle.std.specs.Float.{nan}
 use Rattle.marching_cubes_impl.specs.declared.vertex.Vertex.{Vertex}
-use Rattle.positions.specs.Position.{step_of, cornerOf}
+use Rattle.positions.specs.Position.{step_of, corner_of}
 use Rattle.walk.specs.Walk.{Visit}
 use Rattle.walk_models.specs.Lent.{Lent}
 use Rattle.lent_mesh.specs.declared.Counts.{Counts}
-use Rattle.lent_mesh.specs.Grid.{positionAt}
+use Rattle.lent_mesh.specs.Grid.{position_at}
 
 -- the three floats of vertex k, where there is room for all three
-unfoldable pub putPoint : List Float → ℕ → Vertex → List Float
-putPoint floats k p =
+unfoldable pub put_point : List Float → ℕ → Vertex → List Float
+put_point floats k p =
     cond (ltb (3 * k + 2) (length floats)) (set (set (set floats (3 * k) p.x) (3 * k + 1) p.y) (3 * k + 2) p.z) floats
 
 -- the vertex of a visit, as number k
-abbrev pub storeAt : ℕ → List Float → Visit → ℕ → List Float → List Float
-storeAt n samples v k floats = putPoint floats k (positionAt n samples v)
+abbrev pub store_at : ℕ → List Float → Visit → ℕ → List Float → List Float
+store_at n samples v k floats = put_point floats k (position_at n samples v)
 
 -- what a run has in hand: a numbering's memory, the lent lists, and how far it has come
-abbrev pub inHand : {D : Type 0} → D → List Float → List ℕ → Counts → Lent D (List Float)
-inHand memory vertices indices counts =
+abbrev pub in_hand : {D : Type 0} → D → List Float → List ℕ → Counts → Lent D (List Float)
+in_hand memory vertices indices counts =
     record { memory = memory; vertices = vertices; indices = indices; made = counts.made; written = counts.written }
 
 -- the cell (x, y, z) is one of the grid's: its corners are samples
@@ -34,4 +34,4 @@ pub record CellOf (samples : List Float) (n x y z : ℕ) : Type 0 where
 
 -- the coordinates 0 to n of the grid, each worked out once
 abbrev pub Coordinates : ℕ → List Float → Type 0
-Coordinates n l = (i : ℕ) → i ≤ n → get_or l i nan ≡ cornerOf i (step_of n)
+Coordinates n l = (i : ℕ) → i ≤ n → get_or l i nan ≡ corner_of i (step_of n)

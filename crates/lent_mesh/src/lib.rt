@@ -2,9 +2,9 @@
 // and the stores into the lent buffers. A store past the end of a buffer changes nothing, so that the
 // same walk counts where there is no room.
 ghost use Rattle.std.specs.Prelude.{◌≡◌, ℕ, ◌+◌, ◌*◌, ◌/◌, ◌%◌, ◌^◌, ◌≤◌, ◌<◌, length, set};
-ghost use Rattle.positions.specs.Position.{sampleAt};
-ghost use Rattle.lent_mesh.specs.Grid.{positionAt};
-ghost use Rattle.lent_mesh.specs.Stored.{putPoint, CellOf, Coordinates};
+ghost use Rattle.positions.specs.Position.{sample_at};
+ghost use Rattle.lent_mesh.specs.Grid.{position_at};
+ghost use Rattle.lent_mesh.specs.Stored.{put_point, CellOf, Coordinates};
 
 use marching_cubes_impl::vertex::Vertex;
 
@@ -41,7 +41,7 @@ fn offset(offsets: usize, edge: usize) -> usize
 
 fn sample(samples: &[f32], n: usize, x: usize, y: usize, z: usize) -> f32
     requires { (n ≤ 128) × (x < n) × (y < n) × (z ≤ n) × (n * n * (z + 1) ≤ length samples.now) }
-    ensures { result ≡ sampleAt n samples.now (record { x = x; y = y; z = z }) }
+    ensures { result ≡ sample_at n samples.now (record { x = x; y = y; z = z }) }
 {
     samples[(z * n + y) * n + x]
 }
@@ -59,7 +59,7 @@ pub fn vertex_on(
 ) -> Vertex
     requires cell_of { CellOf samples.now n x y z }
     requires edge_bound { (edge < 12) × Coordinates n coordinates.now }
-    ensures { result ≡ positionAt n samples.now (record { x = x; y = y; z = z; edge = edge }) }
+    ensures { result ≡ position_at n samples.now (record { x = x; y = y; z = z; edge = edge }) }
 {
     let x0 = x + offset(0x666, edge);
     let y0 = y + offset(0xCCC, edge);
@@ -107,7 +107,7 @@ pub fn put_vertex(
 )
     requires cell_of { CellOf samples.now n x y z }
     requires edge_bound { (edge < 12) × Coordinates n coordinates.now }
-    ensures { vertices.new ≡ putPoint vertices.old number (positionAt n samples.now (record { x = x; y = y; z = z; edge = edge })) }
+    ensures { vertices.new ≡ put_point vertices.old number (position_at n samples.now (record { x = x; y = y; z = z; edge = edge })) }
 {
     let at = 3 * (number as usize);
     if at + 2 < vertices.len() {

@@ -10,29 +10,29 @@ use lib.Ieee.{Float}
 use Rattle.walk.specs.Cache.{fresh}
 use Rattle.walk.specs.Numbering.{mesh, joined, crate}
 use Rattle.walk.proofs.Counts.{indices-most, made-le-indices}
-use Rattle.lent_mesh.specs.Grid.{insideOf}
-use Rattle.outcome.specs.Outcome.{Surface, surface, surfaceOf}
+use Rattle.lent_mesh.specs.Grid.{inside_of}
+use Rattle.outcome.specs.Outcome.{Surface, surface, surface_of}
 
 either : (P : Surface → Type 0) (b : Bool) (c j : Surface) → P c → P j → P (cond b c j)
 either P true c j hc hj = hc
 either P false c j hc hj = hj
 
 module _ (n numbering : ℕ) (samples : List Float) where
-  pub made-le : length (surfaceOf n numbering samples).made ≤ length (surfaceOf n numbering samples).indices
-  unfolding surfaceOf
+  pub made-le : length (surface_of n numbering samples).made ≤ length (surface_of n numbering samples).indices
+  unfolding surface_of
   made-le =
       either (λ s. length s.made ≤ length s.indices) (eqb numbering 0)
-      (surface (mesh (crate n) fresh (insideOf n samples) n n)) (surface (mesh joined [] (insideOf n samples) n n))
-      (made-le-indices (crate n) fresh (insideOf n samples) n n) (made-le-indices joined [] (insideOf n samples) n n)
+      (surface (mesh (crate n) fresh (inside_of n samples) n n)) (surface (mesh joined [] (inside_of n samples) n n))
+      (made-le-indices (crate n) fresh (inside_of n samples) n n) (made-le-indices joined [] (inside_of n samples) n n)
 
-  indices-cells : length (surfaceOf n numbering samples).indices ≤ 15 * (n * (n - 1) * (n - 1))
-  unfolding surfaceOf
+  indices-cells : length (surface_of n numbering samples).indices ≤ 15 * (n * (n - 1) * (n - 1))
+  unfolding surface_of
   indices-cells =
       either (λ s. length s.indices ≤ 15 * (n * (n - 1) * (n - 1))) (eqb numbering 0)
-      (surface (mesh (crate n) fresh (insideOf n samples) n n)) (surface (mesh joined [] (insideOf n samples) n n))
-      (indices-most (crate n) fresh (insideOf n samples) n n) (indices-most joined [] (insideOf n samples) n n)
+      (surface (mesh (crate n) fresh (inside_of n samples) n n)) (surface (mesh joined [] (inside_of n samples) n n))
+      (indices-most (crate n) fresh (inside_of n samples) n n) (indices-most joined [] (inside_of n samples) n n)
 
-  pub indices-le : n ≤ 7 → length (surfaceOf n numbering samples).indices ≤ 3780
+  pub indices-le : n ≤ 7 → length (surface_of n numbering samples).indices ≤ 3780
   indices-le most =
       let less : n - 1 ≤ 6 = omega arith in
       let cells : n * (n - 1) * (n - 1) ≤ 7 * 6 * 6 = mul-le-mul (mul-le-mul most less) less in

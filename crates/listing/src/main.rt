@@ -3,9 +3,9 @@
 // `main` reads and writes.
 ghost use Rattle.std.specs.Prelude.{◌≡◌, ◌++◌, ◌+◌, ◌*◌, ◌/◌, ◌≤◌, length, take};
 ghost use Rattle.listing_words.specs.Put.{Put};
-ghost use Rattle.listing_runs.specs.Runs.{lines_of, vertexLineAt, faceLineAt};
-ghost use Rattle.listing_text.specs.Lines.{firstLine};
-ghost use Rattle.listing.specs.Listing.{gridText, listingOf};
+ghost use Rattle.listing_runs.specs.Runs.{lines_of, vertex_line_at, face_line_at};
+ghost use Rattle.listing_text.specs.Lines.{first_line};
+ghost use Rattle.listing.specs.Listing.{grid_text, listing_of};
 
 use listing_runs::{put_faces, put_vertices};
 use listing_text::{put_first, put_refused};
@@ -22,8 +22,8 @@ fn put_mesh(
 ) -> usize
     requires made_in_bounds { (3 * made ≤ length vertices.now) × (written ≤ length indices.now) }
     requires written_in_bounds { 102 + 29 * made + 65 * (written / 3) ≤ length text.old }
-    ensures put { Put text.old 0 (firstLine size numbering made written
-        ++ lines_of made (vertexLineAt vertices.now) ++ lines_of (written / 3) (faceLineAt indices.now)) text.new result }
+    ensures put { Put text.old 0 (first_line size numbering made written
+        ++ lines_of made (vertex_line_at vertices.now) ++ lines_of (written / 3) (face_line_at indices.now)) text.new result }
     ensures upper_bound { result ≤ 102 + 29 * made + 65 * (written / 3) }
 {
     let first = put_first(text, 0, size, numbering, made as u64, written as u64);
@@ -37,7 +37,7 @@ fn put_mesh(
 fn list_grid(text: &mut [u8], size: u32, numbering: u32, samples: &[f32]) -> usize
     requires le_size { (2 ≤ size) × (size ≤ 7) × (numbering ≤ 1) × (length samples.now ≡ size * size * (size + 1)) }
     requires in_bounds { 191622 ≤ length text.old }
-    ensures put { Put text.old 0 (gridText size numbering samples.now) text.new result }
+    ensures put { Put text.old 0 (grid_text size numbering samples.now) text.new result }
     ensures upper_bound { result ≤ 191622 }
 {
     let mut work = [0u32; 434];
@@ -62,7 +62,7 @@ fn list_grid(text: &mut [u8], size: u32, numbering: u32, samples: &[f32]) -> usi
 // The listing of a record's bytes, at the front of the text.
 fn list(bytes: &[u8], text: &mut [u8]) -> usize
     requires { 191622 ≤ length text.old }
-    ensures text_after { take result text.new ≡ listingOf bytes.now }
+    ensures text_after { take result text.new ≡ listing_of bytes.now }
     ensures upper_bound { result ≤ 191622 }
 {
     let found = record_answer::record_answer(bytes, 7);

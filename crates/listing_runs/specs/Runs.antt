@@ -2,18 +2,18 @@
 -- `listing_text`, in its `proofs/Cases.antt`.
 use Rattle.std.specs.Prelude.{List, [], ◌∷◌, ◌++◌, ℕ, zero, suc, ◌+◌, ◌*◌, get_or, Float}
 use Rattle.std.specs.Float.{nan}
-use Rattle.listing_words.specs.Digits.{numberWord, floatWord}
+use Rattle.listing_words.specs.Digits.{number_word, float_word}
 
 abbrev pub newline : List ℕ
 newline = 10 ∷ []
 
 -- "v", three floats
-abbrev pub vertexLine : Float → Float → Float → List ℕ
-vertexLine x y z = (118 ∷ []) ++ floatWord x ++ floatWord y ++ floatWord z ++ newline
+abbrev pub vertex_line : Float → Float → Float → List ℕ
+vertex_line x y z = (118 ∷ []) ++ float_word x ++ float_word y ++ float_word z ++ newline
 
 -- "f", three numbers
-abbrev pub faceLine : ℕ → ℕ → ℕ → List ℕ
-faceLine a b c = (102 ∷ []) ++ numberWord a ++ numberWord b ++ numberWord c ++ newline
+abbrev pub face_line : ℕ → ℕ → ℕ → List ℕ
+face_line a b c = (102 ∷ []) ++ number_word a ++ number_word b ++ number_word c ++ newline
 
 -- the lines of 0, 1, .. below the count
 abbrev pub lines_of : ℕ → (ℕ → List ℕ) → List ℕ
@@ -21,8 +21,8 @@ lines_of zero line = []
 lines_of (suc i) line = lines_of i line ++ line i
 
 -- line i has the floats 3i, 3i + 1 and 3i + 2
-abbrev pub vertexLineAt : List Float → ℕ → List ℕ
-vertexLineAt floats i = vertexLine (get_or floats (3 * i) nan) (get_or floats (3 * i + 1) nan) (get_or floats (3 * i + 2) nan)
+abbrev pub vertex_line_at : List Float → ℕ → List ℕ
+vertex_line_at floats i = vertex_line (get_or floats (3 * i) nan) (get_or floats (3 * i + 1) nan) (get_or floats (3 * i + 2) nan)
 
-abbrev pub faceLineAt : List ℕ → ℕ → List ℕ
-faceLineAt indices i = faceLine (get_or indices (3 * i) 0) (get_or indices (3 * i + 1) 0) (get_or indices (3 * i + 2) 0)
+abbrev pub face_line_at : List ℕ → ℕ → List ℕ
+face_line_at indices i = face_line (get_or indices (3 * i) 0) (get_or indices (3 * i + 1) 0) (get_or indices (3 * i + 2) 0)

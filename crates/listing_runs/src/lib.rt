@@ -2,14 +2,14 @@
 // vertex and a line for each triangle.
 ghost use Rattle.std.specs.Prelude.{◌≡◌, ◌+◌, ◌*◌, ◌≤◌, length};
 ghost use Rattle.listing_words.specs.Put.{Put};
-ghost use Rattle.listing_runs.specs.Runs.{vertexLine, faceLine, lines_of, vertexLineAt, faceLineAt};
+ghost use Rattle.listing_runs.specs.Runs.{vertex_line, face_line, lines_of, vertex_line_at, face_line_at};
 
 use listing_words::{put_bytes, put_float, put_number};
 
 // Three coordinates by their bits.
 fn put_vertex(text: &mut [u8], at: usize, x: f32, y: f32, z: f32) -> usize
     requires { at + 29 ≤ length text.old }
-    ensures put { Put text.old at (vertexLine x y z) text.new result }
+    ensures put { Put text.old at (vertex_line x y z) text.new result }
     ensures value { result ≡ at + 29 }
 {
     let first = put_bytes(text, at, b"v");
@@ -22,7 +22,7 @@ fn put_vertex(text: &mut [u8], at: usize, x: f32, y: f32, z: f32) -> usize
 // Three vertex numbers, counted from 0.
 fn put_face(text: &mut [u8], at: usize, a: u32, b: u32, c: u32) -> usize
     requires { at + 65 ≤ length text.old }
-    ensures put { Put text.old at (faceLine a b c) text.new result }
+    ensures put { Put text.old at (face_line a b c) text.new result }
     ensures upper_bound { result ≤ at + 65 }
 {
     let first = put_bytes(text, at, b"f");
@@ -35,7 +35,7 @@ fn put_face(text: &mut [u8], at: usize, a: u32, b: u32, c: u32) -> usize
 // A line for each vertex among the first `count`.
 pub fn put_vertices(text: &mut [u8], at: usize, vertices: &[f32], count: usize) -> usize
     requires { (3 * count ≤ length vertices.now) × (at + 29 * count ≤ length text.old) }
-    ensures put { Put text.old at (lines_of count (vertexLineAt vertices.now)) text.new result }
+    ensures put { Put text.old at (lines_of count (vertex_line_at vertices.now)) text.new result }
     ensures value { result ≡ at + 29 * count }
 {
     let mut next = at;
@@ -56,7 +56,7 @@ pub fn put_vertices(text: &mut [u8], at: usize, vertices: &[f32], count: usize) 
 // A line for each triangle among the first `count`.
 pub fn put_faces(text: &mut [u8], at: usize, indices: &[u32], count: usize) -> usize
     requires { (3 * count ≤ length indices.now) × (at + 65 * count ≤ length text.old) }
-    ensures put { Put text.old at (lines_of count (faceLineAt indices.now)) text.new result }
+    ensures put { Put text.old at (lines_of count (face_line_at indices.now)) text.new result }
     ensures upper_bound { result ≤ at + 65 * count }
 {
     let mut next = at;

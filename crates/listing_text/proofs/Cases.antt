@@ -4,8 +4,8 @@ use mathlib.Core.Path.{◌≡◌, refl}
 use mathlib.Core.List.{List, [], ◌∷◌, ◌++◌, map}
 use Prim.Native.Nat.{ℕ}
 use lib.Ieee.{Float, binary32, of_bits, to_bits}
-use Rattle.listing_words.specs.Digits.{numberWord, floatWord}
-use Rattle.listing_text.specs.Lines.{refusedLine, meshText}
+use Rattle.listing_words.specs.Digits.{number_word, float_word}
+use Rattle.listing_text.specs.Lines.{refused_line, mesh_text}
 
 -- the vertices of W4, by their bits
 pub corners : List Float
@@ -15,13 +15,13 @@ corners =
 
 pub made : List (List ℕ)
 made =
-    meshText 2 1 corners (0 ∷ 1 ∷ 2 ∷ 0 ∷ 3 ∷ 1 ∷ [])
-    ∷ refusedLine 5 7
-    ∷ numberWord 0
-    ∷ numberWord 10
-    ∷ numberWord 18446744073709551615
-    ∷ floatWord (of_bits binary32 0x80000000)
-    ∷ floatWord (of_bits binary32 0xFF7FFFFF)
+    mesh_text 2 1 corners (0 ∷ 1 ∷ 2 ∷ 0 ∷ 3 ∷ 1 ∷ [])
+    ∷ refused_line 5 7
+    ∷ number_word 0
+    ∷ number_word 10
+    ∷ number_word 18446744073709551615
+    ∷ float_word (of_bits binary32 0x80000000)
+    ∷ float_word (of_bits binary32 0xFF7FFFFF)
     ∷ []
 
 -- document 01's seven lines of W4; "refused 5 at 7"; " 0"; " 10"; the largest u64; minus zero; the lowest finite float
@@ -43,5 +43,5 @@ owed =
     ∷ []
 
 pub lines-hold : made ≡ owed
-unfolding numberWord floatWord of_bits to_bits owed made corners
+unfolding number_word float_word of_bits to_bits owed made corners
 lines-hold = refl

@@ -2,14 +2,14 @@
 // refusal's only line, and the line before a mesh's two runs of lines.
 ghost use Rattle.std.specs.Prelude.{◌+◌, ◌≤◌, length};
 ghost use Rattle.listing_words.specs.Put.{Put};
-ghost use Rattle.listing_text.specs.Lines.{numberingWords, sizeWords, countWords, firstLine, refusedLine};
+ghost use Rattle.listing_text.specs.Lines.{numbering_words, size_words, count_words, first_line, refused_line};
 
 use listing_words::{put_bytes, put_number};
 
 // A refusal's only line.
 pub fn put_refused(text: &mut [u8], at: usize, cause: u32, place: u64) -> usize
     requires { at + 53 ≤ length text.old }
-    ensures put { Put text.old at (refusedLine cause place) text.new result }
+    ensures put { Put text.old at (refused_line cause place) text.new result }
     ensures upper_bound { result ≤ at + 53 }
 {
     let first = put_bytes(text, at, b"refused");
@@ -21,7 +21,7 @@ pub fn put_refused(text: &mut [u8], at: usize, cause: u32, place: u64) -> usize
 
 fn put_numbering(text: &mut [u8], at: usize, numbering: u32) -> usize
     requires { at + 17 ≤ length text.old }
-    ensures put { Put text.old at (numberingWords numbering) text.new result }
+    ensures put { Put text.old at (numbering_words numbering) text.new result }
     ensures upper_bound { result ≤ at + 17 }
 {
     if numbering == 0 {
@@ -33,7 +33,7 @@ fn put_numbering(text: &mut [u8], at: usize, numbering: u32) -> usize
 
 fn put_size(text: &mut [u8], at: usize, size: u32, numbering: u32) -> usize
     requires { at + 42 ≤ length text.old }
-    ensures put { Put text.old at (sizeWords size numbering) text.new result }
+    ensures put { Put text.old at (size_words size numbering) text.new result }
     ensures upper_bound { result ≤ at + 42 }
 {
     let first = put_bytes(text, at, b"size");
@@ -43,7 +43,7 @@ fn put_size(text: &mut [u8], at: usize, size: u32, numbering: u32) -> usize
 
 fn put_counts(text: &mut [u8], at: usize, vertices: u64, indices: u64) -> usize
     requires { at + 60 ≤ length text.old }
-    ensures put { Put text.old at (countWords vertices indices) text.new result }
+    ensures put { Put text.old at (count_words vertices indices) text.new result }
     ensures upper_bound { result ≤ at + 60 }
 {
     let first = put_bytes(text, at, b" vertices");
@@ -63,7 +63,7 @@ pub fn put_first(
     indices: u64,
 ) -> usize
     requires { at + 102 ≤ length text.old }
-    ensures put { Put text.old at (firstLine size numbering vertices indices) text.new result }
+    ensures put { Put text.old at (first_line size numbering vertices indices) text.new result }
     ensures upper_bound { result ≤ at + 102 }
 {
     let next = put_size(text, at, size, numbering);

@@ -7,7 +7,7 @@ use native.Mathlib.Numerals.{add-one, sub-one}
 use lib.ListN.{length, set, length-append}
 use borrow.Author.Tests.{lt-ltb, le-ltb}
 use Rattle.listing_words.specs.Put.{Put}
-use Rattle.listing_words.specs.Digits.{glyph, digits, placesWithin}
+use Rattle.listing_words.specs.Digits.{glyph, digits, places_within}
 use Rattle.listing_words.proofs.Putting.{put_byte}
 
 pub digits-length : (base places n : ℕ) → length (digits base places n) ≡ places
@@ -28,13 +28,13 @@ digits-next base (suc places) n at next a b some h =
 one-add : (k : ℕ) → 1 + k ≡ suc k
 one-add k = add_comm 1 k ∙ add-one k
 
-pub placesWithin-ten : (more n : ℕ) → (more ≡ 0 → ⊥) → 10 ≤ n → 1 + placesWithin (more - 1) (n / 10) ≡ placesWithin more n
-placesWithin-ten zero n some h = absurd (some refl)
-placesWithin-ten (suc more) n some h = rw (le-ltb n 10 h, sub-one (suc more)) (one-add (placesWithin more (n / 10)))
+pub places_within-ten : (more n : ℕ) → (more ≡ 0 → ⊥) → 10 ≤ n → 1 + places_within (more - 1) (n / 10) ≡ places_within more n
+places_within-ten zero n some h = absurd (some refl)
+places_within-ten (suc more) n some h = rw (le-ltb n 10 h, sub-one (suc more)) (one-add (places_within more (n / 10)))
 
-pub placesWithin-one : (more n : ℕ) → n < 10 → 1 ≡ placesWithin more n
-placesWithin-one zero n h = refl
-placesWithin-one (suc more) n h = rw (lt-ltb n 10 h) refl
+pub places_within-one : (more n : ℕ) → n < 10 → 1 ≡ places_within more n
+places_within-one zero n h = refl
+places_within-one (suc more) n h = rw (lt-ltb n 10 h) refl
 
-pub placesWithin-none : (more n : ℕ) → more ≡ 0 → 1 ≡ placesWithin more n
-placesWithin-none more n h = rw h refl
+pub places_within-none : (more n : ℕ) → more ≡ 0 → 1 ≡ places_within more n
+places_within-none more n h = rw h refl

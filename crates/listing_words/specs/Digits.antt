@@ -13,17 +13,17 @@ digits base zero n = []
 digits base (suc places) n = digits base places (n / base) ++ (glyph (n % base) ∷ [])
 
 -- how many decimal digits n has: 1 where it is below 10, else one more than its tenth has; `more` bounds the tenths
-abbrev pub placesWithin : ℕ → ℕ → ℕ
-placesWithin zero n = 1
-placesWithin (suc more) n = cond (ltb n 10) 1 (suc (placesWithin more (n / 10)))
+abbrev pub places_within : ℕ → ℕ → ℕ
+places_within zero n = 1
+places_within (suc more) n = cond (ltb n 10) 1 (suc (places_within more (n / 10)))
 
 -- a u64 has at most 20 digits
 abbrev pub decimal : ℕ → List ℕ
-decimal n = digits 10 (placesWithin 19 n) n
+decimal n = digits 10 (places_within 19 n) n
 
 -- a space before each
-unfoldable pub numberWord : ℕ → List ℕ
-numberWord n = 32 ∷ decimal n
+unfoldable pub number_word : ℕ → List ℕ
+number_word n = 32 ∷ decimal n
 
-unfoldable pub floatWord : Float → List ℕ
-floatWord x = 32 ∷ digits 16 8 (to_bits binary32 x)
+unfoldable pub float_word : Float → List ℕ
+float_word x = 32 ∷ digits 16 8 (to_bits binary32 x)

@@ -3,7 +3,7 @@
 // nothing but the piece was written.
 ghost use Rattle.std.specs.Prelude.{◌≡◌, ◌+◌, ◌<◌, ◌≤◌, length};
 ghost use Rattle.listing_words.specs.Put.{Put};
-ghost use Rattle.listing_words.specs.Digits.{digits, placesWithin, numberWord, floatWord};
+ghost use Rattle.listing_words.specs.Digits.{digits, places_within, number_word, float_word};
 ghost use Rattle.listing_words.specs.Digits.{glyph as Digits·glyph};
 
 use little_endian::bits_of;
@@ -50,7 +50,7 @@ fn put_digits(text: &mut [u8], at: usize, base: u64, places: usize, n: u64) -> u
 // How many decimal digits a number has, one more than `more` being the most.
 fn places_within(more: usize, n: u64) -> usize
     requires { more ≤ 19 }
-    ensures { (result ≡ placesWithin more n) × (result ≤ more + 1) }
+    ensures { (result ≡ places_within more n) × (result ≤ more + 1) }
 {
     if more == 0 {
         return 1;
@@ -64,7 +64,7 @@ fn places_within(more: usize, n: u64) -> usize
 // A space and a number in decimal.
 pub fn put_number(text: &mut [u8], at: usize, n: u64) -> usize
     requires { at + 21 ≤ length text.old }
-    ensures put { Put text.old at (numberWord n) text.new result }
+    ensures put { Put text.old at (number_word n) text.new result }
     ensures upper_bound { result ≤ at + 21 }
 {
     let places = places_within(19, n);
@@ -75,7 +75,7 @@ pub fn put_number(text: &mut [u8], at: usize, n: u64) -> usize
 // A space and the eight hex digits of a float's bits.
 pub fn put_float(text: &mut [u8], at: usize, x: f32) -> usize
     requires { at + 9 ≤ length text.old }
-    ensures put { Put text.old at (floatWord x) text.new result }
+    ensures put { Put text.old at (float_word x) text.new result }
     ensures value { result ≡ at + 9 }
 {
     let bits = bits_of(x) as u64;

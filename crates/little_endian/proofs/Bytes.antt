@@ -38,14 +38,14 @@ below-read bound [] some h i = some
 below-read bound (x ∷ l) some h zero = h 0 (omega arith)
 below-read bound (x ∷ l) some h (suc i) = below-read bound l some (below-tail bound x l h) i
 
-pub bytesOf-length : (ws : List ℕ) → length (bytes_of ws) ≡ 4 * length ws
+pub bytes_of-length : (ws : List ℕ) → length (bytes_of ws) ≡ 4 * length ws
 unfolding word_bytes
-bytesOf-length [] = refl
-bytesOf-length (w ∷ ws) = let h = bytesOf-length ws in omega arith
+bytes_of-length [] = refl
+bytes_of-length (w ∷ ws) = let h = bytes_of-length ws in omega arith
 
-pub bytesOf-append : (xs ys : List ℕ) → bytes_of (xs ++ ys) ≡ bytes_of xs ++ bytes_of ys
-bytesOf-append [] ys = refl
-bytesOf-append (x ∷ xs) ys = ap (λ (l : List ℕ). word_bytes x ++ l) (bytesOf-append xs ys) ∙ sym (append_assoc (word_bytes x) (bytes_of xs) (bytes_of ys))
+pub bytes_of-append : (xs ys : List ℕ) → bytes_of (xs ++ ys) ≡ bytes_of xs ++ bytes_of ys
+bytes_of-append [] ys = refl
+bytes_of-append (x ∷ xs) ys = ap (λ (l : List ℕ). word_bytes x ++ l) (bytes_of-append xs ys) ∙ sym (append_assoc (word_bytes x) (bytes_of xs) (bytes_of ys))
 
 -- ---- written, then read
 
@@ -56,10 +56,10 @@ digits w h =
     let top : w / 16777216 % 256 ≡ w / 16777216 = omega arith in
     omega (arith, second, third, top)
 
-pub words-bytesOf : (ws : List ℕ) → Below 4294967296 ws → words (bytes_of ws) ≡ ws
+pub words-bytes_of : (ws : List ℕ) → Below 4294967296 ws → words (bytes_of ws) ≡ ws
 unfolding word_bytes
-words-bytesOf [] h = refl
-words-bytesOf (w ∷ ws) h = ap₂ (λ (a : ℕ) (l : List ℕ). a ∷ l) (digits w (h 0 (omega arith))) (words-bytesOf ws (below-tail 4294967296 w ws h))
+words-bytes_of [] h = refl
+words-bytes_of (w ∷ ws) h = ap₂ (λ (a : ℕ) (l : List ℕ). a ∷ l) (digits w (h 0 (omega arith))) (words-bytes_of ws (below-tail 4294967296 w ws h))
 
 -- ---- read, then written
 
@@ -79,18 +79,18 @@ module _ (a b c d : ℕ) (ha : a < 256) (hb : b < 256) (hc : c < 256) (hd : d < 
   fourth : word a b c d / 16777216 % 256 ≡ d
   fourth = omega arith
 
-  wordBytes-word : word_bytes (word a b c d) ≡ a ∷ b ∷ c ∷ d ∷ []
+  word_bytes-word : word_bytes (word a b c d) ≡ a ∷ b ∷ c ∷ d ∷ []
   unfolding word_bytes
-  wordBytes-word = rw (first, second, third, fourth)
+  word_bytes-word = rw (first, second, third, fourth)
 
-pub bytesOf-words : (bytes : List ℕ) → Below 256 bytes → length bytes ≡ 4 * (length bytes / 4) → bytes_of (words bytes) ≡ bytes
-bytesOf-words [] h fours = refl
-bytesOf-words (a ∷ []) h fours = absurd (omega arith)
-bytesOf-words (a ∷ b ∷ []) h fours = absurd (omega arith)
-bytesOf-words (a ∷ b ∷ c ∷ []) h fours = absurd (omega arith)
-bytesOf-words (a ∷ b ∷ c ∷ d ∷ rest) h fours =
-    ap₂ (λ (p q : List ℕ). p ++ q) (wordBytes-word a b c d (h 0 (omega arith)) (h 1 (omega arith)) (h 2 (omega arith)) (h 3 (omega arith)))
-    (bytesOf-words rest (λ i within. h (suc (suc (suc (suc i)))) (omega arith)) (omega arith))
+pub bytes_of-words : (bytes : List ℕ) → Below 256 bytes → length bytes ≡ 4 * (length bytes / 4) → bytes_of (words bytes) ≡ bytes
+bytes_of-words [] h fours = refl
+bytes_of-words (a ∷ []) h fours = absurd (omega arith)
+bytes_of-words (a ∷ b ∷ []) h fours = absurd (omega arith)
+bytes_of-words (a ∷ b ∷ c ∷ []) h fours = absurd (omega arith)
+bytes_of-words (a ∷ b ∷ c ∷ d ∷ rest) h fours =
+    ap₂ (λ (p q : List ℕ). p ++ q) (word_bytes-word a b c d (h 0 (omega arith)) (h 1 (omega arith)) (h 2 (omega arith)) (h 3 (omega arith)))
+    (bytes_of-words rest (λ i within. h (suc (suc (suc (suc i)))) (omega arith)) (omega arith))
 
 pub words-below : (bytes : List ℕ) → Below 256 bytes → Below 4294967296 (words bytes)
 words-below [] h i within = absurd (omega arith)
@@ -100,22 +100,22 @@ words-below (a ∷ b ∷ c ∷ []) h i within = absurd (omega arith)
 words-below (a ∷ b ∷ c ∷ d ∷ rest) h zero within = word_lt a b c d (h 0 (omega arith)) (h 1 (omega arith)) (h 2 (omega arith)) (h 3 (omega arith))
 words-below (a ∷ b ∷ c ∷ d ∷ rest) h (suc i) within = words-below rest (λ j w. h (suc (suc (suc (suc j)))) (omega arith)) i (omega arith)
 
-pub wordAt-lt : (bytes : List ℕ) → Below 256 bytes → (place : ℕ) → word_at bytes place < 4294967296
+pub word_at-lt : (bytes : List ℕ) → Below 256 bytes → (place : ℕ) → word_at bytes place < 4294967296
 unfolding word_at
-wordAt-lt bytes h place =
+word_at-lt bytes h place =
     let byte = below-read 256 bytes (omega arith) h in
     word_lt (get_or bytes place 0) (get_or bytes (place + 1) 0) (get_or bytes (place + 2) 0) (get_or bytes (place + 3) 0)
     (byte place) (byte (place + 1)) (byte (place + 2)) (byte (place + 3))
 
 -- every byte of words is a byte
-pub bytesOf-below : (ws : List ℕ) → Below 256 (bytes_of ws)
+pub bytes_of-below : (ws : List ℕ) → Below 256 (bytes_of ws)
 unfolding word_bytes
-bytesOf-below [] i within = absurd (omega arith)
-bytesOf-below (w ∷ ws) zero within = omega arith
-bytesOf-below (w ∷ ws) (suc zero) within = omega arith
-bytesOf-below (w ∷ ws) (suc (suc zero)) within = omega arith
-bytesOf-below (w ∷ ws) (suc (suc (suc zero))) within = omega arith
-bytesOf-below (w ∷ ws) (suc (suc (suc (suc i)))) within = bytesOf-below ws i (omega arith)
+bytes_of-below [] i within = absurd (omega arith)
+bytes_of-below (w ∷ ws) zero within = omega arith
+bytes_of-below (w ∷ ws) (suc zero) within = omega arith
+bytes_of-below (w ∷ ws) (suc (suc zero)) within = omega arith
+bytes_of-below (w ∷ ws) (suc (suc (suc zero))) within = omega arith
+bytes_of-below (w ∷ ws) (suc (suc (suc (suc i)))) within = bytes_of-below ws i (omega arith)
 
 -- ---- one piece after another
 

@@ -9,20 +9,20 @@ use lib.Ieee.Bits.{nan_bits_is, nan_bits_above}
 use borrow.Author.Tests.{lt-ltb, le-ltb}
 
 -- the sign's bit taken off, against an infinity's bits
-nanBits-masked : (bits : ℕ) → nan_bits binary32 bits ≡ ltb 0x7f80_0000 (bit_and bits 0x7fff_ffff)
-nanBits-masked bits = nan_bits_above binary32 bits ∙ ap (ltb 0x7f80_0000) (sym (and_mask bits 31))
+nan_bits-masked : (bits : ℕ) → nan_bits binary32 bits ≡ ltb 0x7f80_0000 (bit_and bits 0x7fff_ffff)
+nan_bits-masked bits = nan_bits_above binary32 bits ∙ ap (ltb 0x7f80_0000) (sym (and_mask bits 31))
 
-pub ofBits-above : (bits : ℕ) → 0x7f80_0000 < bit_and bits 0x7fff_ffff → of_bits binary32 bits ≡ nan
+pub of_bits-above : (bits : ℕ) → 0x7f80_0000 < bit_and bits 0x7fff_ffff → of_bits binary32 bits ≡ nan
 unfolding is_nan
-ofBits-above bits h = only_nan (of_bits binary32 bits) (sym (nan_bits_is binary32 bits) ∙ nanBits-masked bits ∙ lt-ltb _ _ h)
+of_bits-above bits h = only_nan (of_bits binary32 bits) (sym (nan_bits_is binary32 bits) ∙ nan_bits-masked bits ∙ lt-ltb _ _ h)
   where
     only_nan : (x : Float) → is_nan x ≡ true → x ≡ nan
     only_nan nan h = refl
     only_nan (inf s) h = absurd (subst T (sym h) tt)
     only_nan (fin s m e) h = absurd (subst T (sym h) tt)
 
-pub not-nanBits : (bits : ℕ) → bit_and bits 0x7fff_ffff ≤ 0x7f80_0000 → T (not (nan_bits binary32 bits))
-not-nanBits bits h = subst (λ (b : Bool). T (not b)) (sym (nanBits-masked bits ∙ le-ltb _ _ h)) tt
+pub not-nan_bits : (bits : ℕ) → bit_and bits 0x7fff_ffff ≤ 0x7f80_0000 → T (not (nan_bits binary32 bits))
+not-nan_bits bits h = subst (λ (b : Bool). T (not b)) (sym (nan_bits-masked bits ∙ le-ltb _ _ h)) tt
 
 pub nought-over-nought : div binary32 (of_bits binary32 0) (of_bits binary32 0) ≡ nan
 unfolding of_bits div

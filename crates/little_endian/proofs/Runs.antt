@@ -5,20 +5,20 @@ use Prim.Native.Nat.{ℕ, zero, suc, ◌+◌, ◌*◌, ◌≤◌, ◌<◌}
 use native.Mathlib.Omega.{arith}
 use lib.ListN.{length, get_or, take, drop, length-take, length-drop}
 use lib.Seq.{get_or-take}
-use Rattle.little_endian.specs.Words.{word_at, words, wordsFrom}
+use Rattle.little_endian.specs.Words.{word_at, words, words_from}
 use Rattle.little_endian.proofs.Words.{words-length, words-from}
 
 module _ (bytes : List ℕ) (at count : ℕ) (within : at + 4 * count ≤ length bytes) where
   words-enough : count ≤ length (words (drop at bytes))
   words-enough = omega (arith, words-length (drop at bytes), length-drop at bytes)
 
-  pub wordsFrom-length : length (wordsFrom bytes at count) ≡ count
-  wordsFrom-length = let h = words-enough in omega (arith, length-take count (words (drop at bytes)))
+  pub words_from-length : length (words_from bytes at count) ≡ count
+  words_from-length = let h = words-enough in omega (arith, length-take count (words (drop at bytes)))
 
-  pub wordsFrom-at : (i : ℕ) → i < count → get_or (wordsFrom bytes at count) i 0 ≡ word_at bytes (at + 4 * i)
-  wordsFrom-at i h = let all = words-enough in get_or-take count (words (drop at bytes)) i 0 h ∙ words-from bytes at i (omega arith)
+  pub words_from-at : (i : ℕ) → i < count → get_or (words_from bytes at count) i 0 ≡ word_at bytes (at + 4 * i)
+  words_from-at i h = let all = words-enough in get_or-take count (words (drop at bytes)) i 0 h ∙ words-from bytes at i (omega arith)
 
-pub getD-map-at : {A B : Type 0} (f : A → B) (l : List A) (i : ℕ) (d : A) (e : B) → i < length l → get_or (map f l) i e ≡ f (get_or l i d)
-getD-map-at f [] i d e h = absurd (omega arith)
-getD-map-at f (x ∷ l) zero d e h = refl
-getD-map-at f (x ∷ l) (suc i) d e h = getD-map-at f l i d e (omega arith)
+pub get_or-map-at : {A B : Type 0} (f : A → B) (l : List A) (i : ℕ) (d : A) (e : B) → i < length l → get_or (map f l) i e ≡ f (get_or l i d)
+get_or-map-at f [] i d e h = absurd (omega arith)
+get_or-map-at f (x ∷ l) zero d e h = refl
+get_or-map-at f (x ∷ l) (suc i) d e h = get_or-map-at f l i d e (omega arith)

@@ -18,9 +18,9 @@ words-length bytes = let h = between bytes in omega arith
     between (a ∷ b ∷ c ∷ []) = omega arith
     between (a ∷ b ∷ c ∷ d ∷ rest) = let h = between rest in omega arith
 
-wordAt-drop : (bytes : List ℕ) (start place : ℕ) → word_at (drop start bytes) place ≡ word_at bytes (start + place)
+word_at-drop : (bytes : List ℕ) (start place : ℕ) → word_at (drop start bytes) place ≡ word_at bytes (start + place)
 unfolding word_at
-wordAt-drop bytes start place = simp (get_or-drop, add_assoc)
+word_at-drop bytes start place = simp (get_or-drop, add_assoc)
 
 pub words-at : (bytes : List ℕ) (i : ℕ) → i < length (words bytes) → get_or (words bytes) i 0 ≡ word_at bytes (4 * i)
 unfolding word_at
@@ -31,11 +31,11 @@ words-at (a ∷ b ∷ c ∷ []) i h = absurd (omega arith)
 words-at (a ∷ b ∷ c ∷ d ∷ rest) zero h = refl
 words-at (a ∷ b ∷ c ∷ d ∷ rest) (suc i) h =
     let next : 4 + 4 * i ≡ 4 * suc i = omega arith in
-    words-at rest i (omega arith) ∙ wordAt-drop (a ∷ b ∷ c ∷ d ∷ rest) 4 (4 * i) ∙ ap (word_at (a ∷ b ∷ c ∷ d ∷ rest)) next
+    words-at rest i (omega arith) ∙ word_at-drop (a ∷ b ∷ c ∷ d ∷ rest) 4 (4 * i) ∙ ap (word_at (a ∷ b ∷ c ∷ d ∷ rest)) next
 
 -- the words after the first `start` bytes
 pub words-from : (bytes : List ℕ) (start i : ℕ) → i < length (words (drop start bytes)) → get_or (words (drop start bytes)) i 0 ≡ word_at bytes (start + 4 * i)
-words-from bytes start i h = words-at (drop start bytes) i h ∙ wordAt-drop bytes start (4 * i)
+words-from bytes start i h = words-at (drop start bytes) i h ∙ word_at-drop bytes start (4 * i)
 
 four-suc : (k : ℕ) → 4 * suc k ≡ suc (suc (suc (suc (4 * k))))
 four-suc k = omega arith

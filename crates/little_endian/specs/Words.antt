@@ -18,8 +18,8 @@ words (a ∷ b ∷ c ∷ []) = []
 words (a ∷ b ∷ c ∷ d ∷ rest) = word a b c d ∷ words rest
 
 -- so many words from a byte place on
-abbrev pub wordsFrom : List ℕ → ℕ → ℕ → List ℕ
-wordsFrom bytes place count = take count (words (drop place bytes))
+abbrev pub words_from : List ℕ → ℕ → ℕ → List ℕ
+words_from bytes place count = take count (words (drop place bytes))
 
 -- the four bytes of a word below 2 ^ 32
 unfoldable pub word_bytes : ℕ → List ℕ

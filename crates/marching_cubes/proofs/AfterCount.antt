@@ -5,8 +5,8 @@ use Prim.Native.Nat.{ℕ, ◌*◌, ◌<◌}
 use native.Mathlib.Omega.{arith}
 use lib.ListN.{length, get_or, drop, length-map}
 use lib.Ieee.{Float}
-use Rattle.lent_mesh.specs.Grid.{positionAt, floatsOf}
-use Rattle.lent_mesh.proofs.Floats.{floatsOf-length}
+use Rattle.lent_mesh.specs.Grid.{position_at, floats_of}
+use Rattle.lent_mesh.proofs.Floats.{floats_of-length}
 use Rattle.outcome.specs.Outcome.{Surface, over}
 use Rattle.passes.proofs.Cleared.{cleared, cleared_at, cleared-tail, cleared-same}
 
@@ -27,7 +27,7 @@ over_none [] old e = refl
 over_none (a ∷ new) old e = absurd (omega arith)
 
 pub over-no-floats : (n : ℕ) (samples : List Float) (s : Surface) (vertices : List Float) → length s.made ≡ 0
-    → vertices ≡ over (floatsOf (map (positionAt n samples) s.made)) vertices
+    → vertices ≡ over (floats_of (map (position_at n samples) s.made)) vertices
 over-no-floats n samples s vertices e =
-    over_none (floatsOf (map (positionAt n samples) s.made)) vertices
-    (floatsOf-length (map (positionAt n samples) s.made) ∙ ap (λ (k : ℕ). 3 * k) (length-map s.made (positionAt n samples) ∙ e))
+    over_none (floats_of (map (position_at n samples) s.made)) vertices
+    (floats_of-length (map (position_at n samples) s.made) ∙ ap (λ (k : ℕ). 3 * k) (length-map s.made (position_at n samples) ∙ e))

@@ -9,9 +9,9 @@ use lib.Dec.{eqb, ltb}
 use lib.ListN.{length, replicate}
 use lib.Ieee.{Float}
 use borrow.Author.Tests.{lt-ltb, le-ltb, eq-eqb, ne_eqb}
-use Rattle.lent_mesh.specs.Grid.{positionAt, floatsOf}
-use Rattle.sample_check.specs.Samples.{lowestBad}
-use Rattle.outcome.specs.Outcome.{Outcome, left, workRoom, Surface, surfaceOf, over, refused, meshed, filled, outcome}
+use Rattle.lent_mesh.specs.Grid.{position_at, floats_of}
+use Rattle.sample_check.specs.Samples.{lowest_bad}
+use Rattle.outcome.specs.Outcome.{Outcome, left, work_room, Surface, surface_of, over, refused, meshed, filled, outcome}
 use Rattle.outcome.specs.declared.Answer.{Answer}
 
 module _ (n numbering : ℕ) (samples : List Float) (work : List ℕ) (vertices : List Float) (indices : List ℕ) where
@@ -40,13 +40,13 @@ module _ (n numbering : ℕ) (samples : List Float) (work : List ℕ) (vertices 
       samples-not-whole h = rw (le-ltb n 2 least, le-ltb 128 n most, le-ltb 1 numbering known, ne_eqb (length samples) (n * n * (n + 1)) h)
 
       module _ (whole : length samples ≡ n * n * (n + 1)) where
-        pub work-short : length work < workRoom n → refuses 4 0
+        pub work-short : length work < work_room n → refuses 4 0
         unfolding outcome
         work-short h =
-            rw (le-ltb n 2 least, le-ltb 128 n most, le-ltb 1 numbering known, eq-eqb (length samples) (n * n * (n + 1)) whole, lt-ltb (length work) (workRoom n) h)
+            rw (le-ltb n 2 least, le-ltb 128 n most, le-ltb 1 numbering known, eq-eqb (length samples) (n * n * (n + 1)) whole, lt-ltb (length work) (work_room n) h)
 
-        module _ (room : workRoom n ≤ length work) where
-          pub sample-bad : lowestBad samples < length samples → refuses 5 (lowestBad samples)
+        module _ (room : work_room n ≤ length work) where
+          pub sample-bad : lowest_bad samples < length samples → refuses 5 (lowest_bad samples)
           unfolding outcome
           sample-bad h =
               rw (
@@ -54,11 +54,11 @@ module _ (n numbering : ℕ) (samples : List Float) (work : List ℕ) (vertices 
                 le-ltb 128 n most,
                 le-ltb 1 numbering known,
                 eq-eqb (length samples) (n * n * (n + 1)) whole,
-                le-ltb (length work) (workRoom n) room,
-                lt-ltb (lowestBad samples) (length samples) h,
+                le-ltb (length work) (work_room n) room,
+                lt-ltb (lowest_bad samples) (length samples) h,
               )
 
-          pub accepted : length samples ≤ lowestBad samples → ends (filled n numbering samples work vertices indices (surfaceOf n numbering samples))
+          pub accepted : length samples ≤ lowest_bad samples → ends (filled n numbering samples work vertices indices (surface_of n numbering samples))
           unfolding outcome
           accepted h =
               rw (
@@ -66,8 +66,8 @@ module _ (n numbering : ℕ) (samples : List Float) (work : List ℕ) (vertices 
                 le-ltb 128 n most,
                 le-ltb 1 numbering known,
                 eq-eqb (length samples) (n * n * (n + 1)) whole,
-                le-ltb (length work) (workRoom n) room,
-                le-ltb (lowestBad samples) (length samples) h,
+                le-ltb (length work) (work_room n) room,
+                le-ltb (lowest_bad samples) (length samples) h,
               )
 
   -- ---- an accepted grid
@@ -88,34 +88,34 @@ module _ (n numbering : ℕ) (samples : List Float) (work : List ℕ) (vertices 
     indices-short l h = rw (le-ltb (length vertices) (3 * length s.made) l, lt-ltb (length indices) (length s.indices) h)
 
     pub room-enough : 3 * length s.made ≤ length vertices → length s.indices ≤ length indices
-        → comes (with 0 (over (floatsOf (map (positionAt n samples) s.made)) vertices) (over s.indices indices))
+        → comes (with 0 (over (floats_of (map (position_at n samples) s.made)) vertices) (over s.indices indices))
     unfolding filled
     room-enough l h = rw (le-ltb (length vertices) (3 * length s.made) l, le-ltb (length indices) (length s.indices) h)
 
     -- the answer and the cleared memory are those of the surface, from the counts that were found
     pub meshed-left : (cause made written : ℕ) (answer : Answer) (left-work : List ℕ) (floats : List Float) (list : List ℕ)
         → made ≡ length s.made → written ≡ length s.indices → answer ≡ record { cause = cause; place = 0; vertices = made; indices = written }
-        → left-work ≡ over (replicate (workRoom n) 0) work → left answer left-work floats list ≡ with cause floats list
+        → left-work ≡ over (replicate (work_room n) 0) work → left answer left-work floats list ≡ with cause floats list
     meshed-left cause made written answer left-work floats list m w a e = rw (a, e, m, w)
 
     pub vertices-left : (made written : ℕ) (answer : Answer) (left-work : List ℕ)
         → made ≡ length s.made → written ≡ length s.indices → answer ≡ record { cause = 6; place = 0; vertices = made; indices = written }
-        → left-work ≡ over (replicate (workRoom n) 0) work → length vertices < 3 * made
+        → left-work ≡ over (replicate (work_room n) 0) work → length vertices < 3 * made
         → left answer left-work vertices indices ≡ filled n numbering samples work vertices indices s
     vertices-left made written answer left-work m w a e h =
         meshed-left 6 made written answer left-work vertices indices m w a e ∙ sym (vertices-short (omega arith))
 
     pub indices-left : (made written : ℕ) (answer : Answer) (left-work : List ℕ)
         → made ≡ length s.made → written ≡ length s.indices → answer ≡ record { cause = 7; place = 0; vertices = made; indices = written }
-        → left-work ≡ over (replicate (workRoom n) 0) work → 3 * made ≤ length vertices → length indices < written
+        → left-work ≡ over (replicate (work_room n) 0) work → 3 * made ≤ length vertices → length indices < written
         → left answer left-work vertices indices ≡ filled n numbering samples work vertices indices s
     indices-left made written answer left-work m w a e l h =
         meshed-left 7 made written answer left-work vertices indices m w a e ∙ sym (indices-short (omega arith) (omega arith))
 
     pub done-left : (made written : ℕ) (answer : Answer) (left-work : List ℕ) (floats : List Float) (list : List ℕ)
         → made ≡ length s.made → written ≡ length s.indices → answer ≡ record { cause = 0; place = 0; vertices = made; indices = written }
-        → left-work ≡ over (replicate (workRoom n) 0) work
-        → floats ≡ over (floatsOf (map (positionAt n samples) s.made)) vertices → list ≡ over s.indices indices
+        → left-work ≡ over (replicate (work_room n) 0) work
+        → floats ≡ over (floats_of (map (position_at n samples) s.made)) vertices → list ≡ over s.indices indices
         → 3 * length s.made ≤ length vertices → length s.indices ≤ length indices
         → left answer left-work floats list ≡ filled n numbering samples work vertices indices s
     done-left made written answer left-work floats list m w a e f g rv ri =

@@ -14,10 +14,10 @@ use Rattle.walk.specs.Numbering.{mesh, joined, crate}
 use Rattle.walk.proofs.Counts.{no_visit}
 use Rattle.positions.specs.Crossing.{GoodGrid}
 use Rattle.walk_positions.proofs.Nearness.{NearVisit, vertices-near}
-use Rattle.lent_mesh.specs.Grid.{insideOf, positionAt, floatsOf}
-use Rattle.sample_check.specs.Samples.{lowestBad}
-use Rattle.sample_check.proofs.Samples.{good-anyBad-none, anyBad-none-length}
-use Rattle.outcome.specs.Outcome.{Outcome, workRoom, Surface, surface, surfaceOf, over, refused, meshed, filled, outcome}
+use Rattle.lent_mesh.specs.Grid.{inside_of, position_at, floats_of}
+use Rattle.sample_check.specs.Samples.{lowest_bad}
+use Rattle.sample_check.proofs.Samples.{good-any_bad-none, any_bad-none-length}
+use Rattle.outcome.specs.Outcome.{Outcome, work_room, Surface, surface, surface_of, over, refused, meshed, filled, outcome}
 use Rattle.passes.specs.Accepted.{Accepted}
 use Rattle.marching_cubes.proofs.ByCause.{accepted, room-enough}
 
@@ -38,19 +38,19 @@ module _ (n numbering : ℕ) (samples : List Float) (work : List ℕ) (vertices 
   -- a property of the refusals, of causes 6 and 7, and of a mesh that is written, is one of every outcome
   module _ (P : Outcome → Type 0)
       (of-refusal : (cause place : ℕ) → 1 ≤ cause → cause ≤ 5 → P (refused n numbering samples work vertices indices cause place))
-      (of_room : (cause : ℕ) → 6 ≤ cause → cause ≤ 7 → P (meshed n numbering samples work vertices indices cause (surfaceOf n numbering samples) vertices indices))
-      (of-done : P (meshed n numbering samples work vertices indices 0 (surfaceOf n numbering samples)
-      (over (floatsOf (map (positionAt n samples) (surfaceOf n numbering samples).made)) vertices) (over (surfaceOf n numbering samples).indices indices))) where
+      (of_room : (cause : ℕ) → 6 ≤ cause → cause ≤ 7 → P (meshed n numbering samples work vertices indices cause (surface_of n numbering samples) vertices indices))
+      (of-done : P (meshed n numbering samples work vertices indices 0 (surface_of n numbering samples)
+      (over (floats_of (map (position_at n samples) (surface_of n numbering samples).made)) vertices) (over (surface_of n numbering samples).indices indices))) where
     every-outcome : P o
     unfolding outcome filled
     every-outcome =
         either P (ltb n 2 || ltb 128 n) _ _ (of-refusal 1 0 (lit≤ tt) (lit≤ tt))
         (either P (ltb 1 numbering) _ _ (of-refusal 2 0 (lit≤ tt) (lit≤ tt))
         (either P (not (eqb (length samples) (n * n * (n + 1)))) _ _ (of-refusal 3 0 (lit≤ tt) (lit≤ tt))
-        (either P (ltb (length work) (workRoom n)) _ _ (of-refusal 4 0 (lit≤ tt) (lit≤ tt))
-        (either P (ltb (lowestBad samples) (length samples)) _ _ (of-refusal 5 (lowestBad samples) (lit≤ tt) (lit≤ tt))
-        (either P (ltb (length vertices) (3 * length (surfaceOf n numbering samples).made)) _ _ (of_room 6 (lit≤ tt) (lit≤ tt))
-        (either P (ltb (length indices) (length (surfaceOf n numbering samples).indices)) _ _ (of_room 7 (lit≤ tt) (lit≤ tt)) of-done))))))
+        (either P (ltb (length work) (work_room n)) _ _ (of-refusal 4 0 (lit≤ tt) (lit≤ tt))
+        (either P (ltb (lowest_bad samples) (length samples)) _ _ (of-refusal 5 (lowest_bad samples) (lit≤ tt) (lit≤ tt))
+        (either P (ltb (length vertices) (3 * length (surface_of n numbering samples).made)) _ _ (of_room 6 (lit≤ tt) (lit≤ tt))
+        (either P (ltb (length indices) (length (surface_of n numbering samples).indices)) _ _ (of_room 7 (lit≤ tt) (lit≤ tt)) of-done))))))
 
   -- ---- demand 1: "Every public call ends with an answer, whatever it is handed. Each bad input has its number; output buffers then hold what they held;
   -- no count is reported but the room needed."
@@ -73,10 +73,10 @@ module _ (n numbering : ℕ) (samples : List Float) (work : List ℕ) (vertices 
 
   -- After causes 6 and 7 the counts are the room needed, and after 0 what is written; the working memory that the size asks for is zero then.
   pub demand-1-room : (1 ≤ o.answer.cause → 6 ≤ o.answer.cause)
-      → (o.work ≡ over (replicate (workRoom n) 0) work) × (o.answer.vertices ≡ length (surfaceOf n numbering samples).made) × (o.answer.indices ≡ length (surfaceOf n numbering samples).indices)
+      → (o.work ≡ over (replicate (work_room n) 0) work) × (o.answer.vertices ≡ length (surface_of n numbering samples).made) × (o.answer.indices ≡ length (surface_of n numbering samples).indices)
   demand-1-room =
       every-outcome (λ p. (1 ≤ p.answer.cause → 6 ≤ p.answer.cause)
-      → (p.work ≡ over (replicate (workRoom n) 0) work) × (p.answer.vertices ≡ length (surfaceOf n numbering samples).made) × (p.answer.indices ≡ length (surfaceOf n numbering samples).indices))
+      → (p.work ≡ over (replicate (work_room n) 0) work) × (p.answer.vertices ≡ length (surface_of n numbering samples).made) × (p.answer.indices ≡ length (surface_of n numbering samples).indices))
       (λ c q l h t. absurd (let u = t l in omega arith)) (λ c l h t. (refl, refl, refl)) (λ t. (refl, refl, refl))
 
   -- ---- demand 2: "On finite samples of magnitude at most 2^126, crate numbering gives the Rust's own vertices and indices, and joined gives one vertex for
@@ -84,39 +84,39 @@ module _ (n numbering : ℕ) (samples : List Float) (work : List ℕ) (vertices 
 
   -- A grid of good samples that passes causes 1 to 4, with room for its mesh, is meshed: the outputs begin with the vertices of the surface, three floats each, and its indices.
   pub demand-2 : Accepted n samples work → numbering ≤ 1 → ((i : ℕ) → i < length samples → good (get_or samples i nan) ≡ true)
-      → 3 * length (surfaceOf n numbering samples).made ≤ length vertices → length (surfaceOf n numbering samples).indices ≤ length indices
-      → o ≡ meshed n numbering samples work vertices indices 0 (surfaceOf n numbering samples)
-      (over (floatsOf (map (positionAt n samples) (surfaceOf n numbering samples).made)) vertices) (over (surfaceOf n numbering samples).indices indices)
+      → 3 * length (surface_of n numbering samples).made ≤ length vertices → length (surface_of n numbering samples).indices ≤ length indices
+      → o ≡ meshed n numbering samples work vertices indices 0 (surface_of n numbering samples)
+      (over (floats_of (map (position_at n samples) (surface_of n numbering samples).made)) vertices) (over (surface_of n numbering samples).indices indices)
   demand-2 a known all-good rv ri =
-      let none : lowestBad samples ≡ length samples = anyBad-none-length samples (good-anyBad-none samples all-good) in
+      let none : lowest_bad samples ≡ length samples = any_bad-none-length samples (good-any_bad-none samples all-good) in
       accepted n numbering samples work vertices indices a.least a.most known a.samples-whole a.work-room (omega arith)
-      ∙ room-enough n numbering samples work vertices indices (surfaceOf n numbering samples) rv ri
+      ∙ room-enough n numbering samples work vertices indices (surface_of n numbering samples) rv ri
 
 -- The surface of numbering 0 is the mesh of the index cache, call for call,
 pub demand-2-crate : (n : ℕ) (samples : List Float)
-    → surfaceOf n 0 samples ≡ record { made = (mesh (crate n) fresh (insideOf n samples) n n).made; indices = (mesh (crate n) fresh (insideOf n samples) n n).indices }
-unfolding surfaceOf
+    → surface_of n 0 samples ≡ record { made = (mesh (crate n) fresh (inside_of n samples) n n).made; indices = (mesh (crate n) fresh (inside_of n samples) n n).indices }
+unfolding surface_of
 demand-2-crate n samples = refl
 
 -- and that of numbering 1 the mesh by first use, of which the crate walk proves `joined_Once`, `joined-exactly` and `joined-count`.
 pub demand-2-joined : (n : ℕ) (samples : List Float)
-    → surfaceOf n 1 samples ≡ record { made = (mesh joined [] (insideOf n samples) n n).made; indices = (mesh joined [] (insideOf n samples) n n).indices }
-unfolding surfaceOf
+    → surface_of n 1 samples ≡ record { made = (mesh joined [] (inside_of n samples) n n).made; indices = (mesh joined [] (inside_of n samples) n n).indices }
+unfolding surface_of
 demand-2-joined n samples = refl
 
 -- ---- demand 3: "Each coordinate of each vertex lies within 2^-20 of the exact crossing, worked out in whole numbers."
 
 module _ (n : ℕ) (samples : List Float) (grid : GoodGrid n (n + 1) samples) where
   abbrev Near : Surface → Type 0
-  Near s = (i : ℕ) → i < length s.made → NearVisit n samples (get_or s.made i no_visit) (get_or (map (positionAt n samples) s.made) i (positionAt n samples no_visit))
+  Near s = (i : ℕ) → i < length s.made → NearVisit n samples (get_or s.made i no_visit) (get_or (map (position_at n samples) s.made) i (position_at n samples no_visit))
 
-  near-either : (b : Bool) → Near (cond b (surface (mesh (crate n) fresh (insideOf n samples) n n)) (surface (mesh joined [] (insideOf n samples) n n)))
+  near-either : (b : Bool) → Near (cond b (surface (mesh (crate n) fresh (inside_of n samples) n n)) (surface (mesh joined [] (inside_of n samples) n n)))
   near-either true = vertices-near n n samples grid (crate n) fresh
   near-either false = vertices-near n n samples grid joined []
 
   -- Of the grid edge at whose visit the vertex was made, in either numbering: vertex i is near the exact crossing.
-  pub demand-3 : (numbering i : ℕ) → i < length (surfaceOf n numbering samples).made
-      → NearVisit n samples (get_or (surfaceOf n numbering samples).made i no_visit)
-      (get_or (map (positionAt n samples) (surfaceOf n numbering samples).made) i (positionAt n samples no_visit))
-  unfolding surfaceOf
+  pub demand-3 : (numbering i : ℕ) → i < length (surface_of n numbering samples).made
+      → NearVisit n samples (get_or (surface_of n numbering samples).made i no_visit)
+      (get_or (map (position_at n samples) (surface_of n numbering samples).made) i (position_at n samples no_visit))
+  unfolding surface_of
   demand-3 numbering = near-either (eqb numbering 0)

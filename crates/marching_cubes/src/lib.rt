@@ -1,7 +1,7 @@
 // The extraction (`extract` of marching_cubes.rs) over lent memory: the causes in order, then the two
 // passes. Outputs are counted first, so that a refusal leaves them as they were.
 ghost use Rattle.std.specs.Prelude.{◌≡◌};
-ghost use Rattle.outcome.specs.Outcome.{Outcome, surfaceOf, left, filled, outcome};
+ghost use Rattle.outcome.specs.Outcome.{Outcome, surface_of, left, filled, outcome};
 ghost use Rattle.passes.specs.Accepted.{Accepted};
 
 use lent_mesh::Counts;
@@ -40,7 +40,7 @@ fn meshed(
 ) -> Answer
     requires { Accepted n samples.now work.old }
     ensures { left result work.new vertices.new indices.new
-        ≡ filled n numbering samples.now work.old vertices.old indices.old (surfaceOf n numbering samples.now) }
+        ≡ filled n numbering samples.now work.old vertices.old indices.old (surface_of n numbering samples.now) }
 {
     let reach = passes::count(numbering, samples, n, work);
     let counts = reach.counts;

@@ -6,8 +6,8 @@ use Prim.Native.Nat.{ℕ}
 use lib.IntN.{pos, negsuc}
 use lib.ListN.{replicate}
 use lib.Ieee.{Float, nan, fin, binary32, of_bits, le, sub, neg, div, eq}
-use Rattle.marching_cubes_tables.specs.Tables.{triangleConnection}
-use Rattle.marching_cubes_tables.specs.Rule.{rowEdges}
+use Rattle.marching_cubes_tables.specs.Tables.{triangle_connection}
+use Rattle.marching_cubes_tables.specs.Rule.{row_edges}
 use Rattle.marching_cubes_impl.specs.declared.Cell.{Cell}
 use Rattle.marching_cubes_impl.specs.declared.edge.Crossing.{Crossing}
 use Rattle.marching_cubes_impl.specs.declared.edge.Crossing.TheVariants.{Absent, At, Refused}
@@ -22,38 +22,38 @@ data Case : Type 0 where
   offset : Float → Float → Case
 
 data Answer : Type 0 where
-  isCell : Cell → Answer
-  isCrossing : Crossing → Answer
-  isOffset : Float → Answer
+  is_cell : Cell → Answer
+  is_crossing : Crossing → Answer
+  is_offset : Float → Answer
 
 abbrev answer : Case → Answer
-answer (cell values) = isCell (cell_of values)
-answer (edge a b) = isCrossing (crossing_of a b)
-answer (offset a b) = isOffset (offset_of a b)
+answer (cell values) = is_cell (cell_of values)
+answer (edge a b) = is_crossing (crossing_of a b)
+answer (offset a b) = is_offset (offset_of a b)
 
-abbrev minusOne : Float
-minusOne = fin true 1 (pos 0)
+abbrev minus_one : Float
+minus_one = fin true 1 (pos 0)
 
 abbrev two : Float
 two = fin false 1 (pos 1)
 
 -- the answer about a cell with these signs and edges
-abbrev withEdges : ℕ → List ℕ → Answer
-withEdges signs edges = isCell (record { signs = signs; edges = padded 16 edges })
+abbrev with_edges : ℕ → List ℕ → Answer
+with_edges signs edges = is_cell (record { signs = signs; edges = padded 16 edges })
 
 cases : map answer (
     -- W7: eight NaN corners
     cell (replicate 8 nan) ∷
     -- W2: all -1.0; W3: sample 0 is -1.0; W6: sample 0 is 0.0
-    cell (replicate 8 minusOne) ∷
-    cell (minusOne ∷ replicate 7 one) ∷
+    cell (replicate 8 minus_one) ∷
+    cell (minus_one ∷ replicate 7 one) ∷
     cell (nought ∷ replicate 7 one) ∷
     -- W8: (-1, 3) and (2, 2)
-    edge minusOne (fin false 3 (pos 0)) ∷
+    edge minus_one (fin false 3 (pos 0)) ∷
     offset two two ∷
     edge two two ∷
     -- W3 and W6: their edges from sample 0
-    edge minusOne one ∷
+    edge minus_one one ∷
     edge nought one ∷
     -- W11: the bits 7E800000 pass, 7E800001 do not
     edge (of_bits binary32 0x7E80_0000) two ∷
@@ -62,19 +62,19 @@ cases : map answer (
     edge two nan ∷
     edge nan nan ∷
     []) ≡
-    withEdges 0 [] ∷
-    withEdges 255 [] ∷
-    withEdges 1 (0 ∷ 8 ∷ 3 ∷ []) ∷
-    withEdges 1 (0 ∷ 8 ∷ 3 ∷ []) ∷
-    isCrossing (At (fin false 1 (negsuc 1))) ∷
-    isOffset half ∷
-    isCrossing Absent ∷
-    isCrossing (At half) ∷
-    isCrossing (At (fin true 0 (pos 0))) ∷
-    isCrossing Absent ∷
-    isCrossing (Refused 0) ∷
-    isCrossing (Refused 1) ∷
-    isCrossing (Refused 0) ∷
+    with_edges 0 [] ∷
+    with_edges 255 [] ∷
+    with_edges 1 (0 ∷ 8 ∷ 3 ∷ []) ∷
+    with_edges 1 (0 ∷ 8 ∷ 3 ∷ []) ∷
+    is_crossing (At (fin false 1 (negsuc 1))) ∷
+    is_offset half ∷
+    is_crossing Absent ∷
+    is_crossing (At half) ∷
+    is_crossing (At (fin true 0 (pos 0))) ∷
+    is_crossing Absent ∷
+    is_crossing (Refused 0) ∷
+    is_crossing (Refused 1) ∷
+    is_crossing (Refused 0) ∷
     []
-unfolding le of_bits neg sub div eq inside good crosses offset_of rowEdges triangleConnection
+unfolding le of_bits neg sub div eq inside good crosses offset_of row_edges triangle_connection
 cases = refl

@@ -11,7 +11,7 @@ use lib.Signed.{lt_z}
 use lib.IntN.{ℤ, pos}
 use lib.ListN.{length, get_or, take, set}
 use Rattle.marching_cubes_tables.specs.Tables.{row}
-use Rattle.marching_cubes_tables.specs.Rule.{rowEdges}
+use Rattle.marching_cubes_tables.specs.Rule.{row_edges}
 use Rattle.marching_cubes_tables.proofs.Tests.{lt-or-ge}
 use Rattle.marching_cubes_tables.proofs.Rule.{row-rule}
 use Rattle.marching_cubes_impl.specs.Cell.{padded}
@@ -25,20 +25,20 @@ padded-set (suc n) (e ∷ es) (suc k) h l = ap (λ (t : List ℤ). pos e ∷ t) 
 
 module _ (s k : ℕ) (z : ℤ) (byte : s < 256) (within : k < 16) (entry : z ≡ get_or (row s) k (pos 0)) where
   -- a negative entry: the row's edges end here
-  pub rowEdges-end : k ≤ length (rowEdges s) → lt_z z (pos 0) ≡ true → k ≡ length (rowEdges s)
-  rowEdges-end l t =
+  pub row_edges-end : k ≤ length (row_edges s) → lt_z z (pos 0) ≡ true → k ≡ length (row_edges s)
+  row_edges-end l t =
       ⊎_elim
       (λ h.
-      let q : z ≡ pos (get_or (rowEdges s) k 0) = entry ∙ (row-rule s byte).first k h in
-      let b : get_or (rowEdges s) k 0 < 0 = ltb-true _ 0 (rw q at t) in
+      let q : z ≡ pos (get_or (row_edges s) k 0) = entry ∙ (row-rule s byte).first k h in
+      let b : get_or (row_edges s) k 0 < 0 = ltb-true _ 0 (rw q at t) in
       omega arith)
       (λ h. omega arith)
-      (lt-or-ge k (length (rowEdges s)))
+      (lt-or-ge k (length (row_edges s)))
 
   -- another entry: it is the row's next edge
-  pub rowEdges-next : lt_z z (pos 0) ≡ false → (k < length (rowEdges s)) × (z ≡ pos (get_or (rowEdges s) k 0))
-  rowEdges-next t =
+  pub row_edges-next : lt_z z (pos 0) ≡ false → (k < length (row_edges s)) × (z ≡ pos (get_or (row_edges s) k 0))
+  row_edges-next t =
       ⊎_elim
       (λ h. (h, entry ∙ (row-rule s byte).first k h))
       (λ h. absurd (true≢false (rw (entry ∙ (row-rule s byte).rest k h within) at t)))
-      (lt-or-ge k (length (rowEdges s)))
+      (lt-or-ge k (length (row_edges s)))

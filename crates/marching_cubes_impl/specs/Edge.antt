@@ -21,17 +21,17 @@ crossing_of a b =
     cond (good a) (cond (good b) (cond (crosses a b) (At (offset_of a b)) Absent) (Refused 1)) (Refused 0)
 
 -- document 01's cause and place of an answer, and the offset that it carries
-abbrev pub causeOf : Crossing → ℕ
-causeOf Absent = 0
-causeOf (At t) = 0
-causeOf (Refused place) = 5
+abbrev pub cause_of : Crossing → ℕ
+cause_of Absent = 0
+cause_of (At t) = 0
+cause_of (Refused place) = 5
 
 abbrev pub place_of : Crossing → ℕ
 place_of Absent = 0
 place_of (At t) = 0
 place_of (Refused place) = place
 
-abbrev pub offsetIn : Crossing → Float
-offsetIn Absent = nought
-offsetIn (At t) = t
-offsetIn (Refused place) = nought
+abbrev pub offset_in : Crossing → Float
+offset_in Absent = nought
+offset_in (At t) = t
+offset_in (Refused place) = nought

@@ -5,6 +5,6 @@ use Rattle.marching_cubes_impl.specs.Sample.{inside}
 abbrev pub bit : Bool → ℕ
 bit b = cond b 1 0
 
-abbrev pub signByte : List Float → ℕ
-signByte [] = 0
-signByte (v ∷ vs) = bit (inside v) + 2 * signByte vs
+abbrev pub sign_byte : List Float → ℕ
+sign_byte [] = 0
+sign_byte (v ∷ vs) = bit (inside v) + 2 * sign_byte vs

@@ -8,5 +8,5 @@ use Rattle.marching_cubes_impl.specs.Sample.{one}
 unfoldable pub between : Float → Float → Float → Float
 between u v t = add binary32 (mul binary32 u (sub binary32 one t)) (mul binary32 v t)
 
-abbrev pub pointBetween : Vertex → Vertex → Float → Vertex
-pointBetween u v t = record { x = between u.x v.x t; y = between u.y v.y t; z = between u.z v.z t }
+abbrev pub point_between : Vertex → Vertex → Float → Vertex
+point_between u v t = record { x = between u.x v.x t; y = between u.y v.y t; z = between u.z v.z t }

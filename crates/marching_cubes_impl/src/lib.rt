@@ -4,9 +4,9 @@ pub mod edge;
 pub mod vertex;
 
 ghost use Rattle.std.specs.Prelude.{◌≡◌};
-ghost use Rattle.marching_cubes_tables.specs.Tables.{triangleTable};
-ghost use Rattle.marching_cubes_tables.specs.Rule.{rowEdges};
-ghost use Rattle.marching_cubes_impl.specs.Signs.{signByte};
+ghost use Rattle.marching_cubes_tables.specs.Tables.{triangle_table};
+ghost use Rattle.marching_cubes_tables.specs.Rule.{row_edges};
+ghost use Rattle.marching_cubes_impl.specs.Signs.{sign_byte};
 ghost use Rattle.marching_cubes_impl.specs.Cell.{padded, cell_of};
 
 // The sign byte of a cell and its edges: those that the row names, in order, then -1.
@@ -19,7 +19,7 @@ pub struct Cell {
 
 // Bit i is set where value i is <= 0.0.
 pub fn sign_byte(values: [f32; 8]) -> u8
-    ensures { result ≡ signByte values }
+    ensures { result ≡ sign_byte values }
 {
     let mut signs: u8 = 0;
     for i in 0..8 {
@@ -32,8 +32,8 @@ pub fn sign_byte(values: [f32; 8]) -> u8
 
 // The row of a sign byte in the lent table, read in threes and left at the first negative entry.
 pub fn row_edges(table: &[i8; 4096], signs: u8) -> [i8; 16]
-    requires { table.now ≡ triangleTable }
-    ensures { result ≡ padded 16 (rowEdges signs) }
+    requires { table.now ≡ triangle_table }
+    ensures { result ≡ padded 16 (row_edges signs) }
 {
     let row = signs as usize;
     let mut edges = [-1i8; 16];

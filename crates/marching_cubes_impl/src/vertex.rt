@@ -1,6 +1,6 @@
 // A vertex, and the point between two others (`interpolate` of marching_cubes_impl.rs).
 ghost use Rattle.std.specs.Prelude.{◌≡◌};
-ghost use Rattle.marching_cubes_impl.specs.Vertex.{between, pointBetween};
+ghost use Rattle.marching_cubes_impl.specs.Vertex.{between, point_between};
 
 // x, y and z together.
 #[derive(Drop)]
@@ -17,7 +17,7 @@ pub fn interpolate_axis(u: f32, v: f32, t: f32) -> f32
 }
 
 pub fn interpolate(u: Vertex, v: Vertex, t: f32) -> Vertex
-    ensures { result ≡ pointBetween u v t }
+    ensures { result ≡ point_between u v t }
 {
     Vertex {
         x: interpolate_axis(u.x, v.x, t),

@@ -11,69 +11,69 @@ use lib.IntN.{ℤ, pos, negsuc}
 use lib.ListN.{length, get_or, drop, length-drop}
 use lib.Seq.{get_or-drop}
 use borrow.Author.Tests.{le-ltb, ne_eqb}
-use Rattle.marching_cubes_tables.specs.Tables.{edgeConnection, triangleConnection, row}
-use Rattle.marching_cubes_tables.specs.Rule.{named, rowEdges, cornersDiffer, member, RowRule}
+use Rattle.marching_cubes_tables.specs.Tables.{edge_connection, triangle_connection, row}
+use Rattle.marching_cubes_tables.specs.Rule.{named, row_edges, corners_differ, member, RowRule}
 use Rattle.marching_cubes_tables.proofs.Tests.{both_left, both_right, beq-eq, lt-or-ge}
 use Rattle.marching_cubes_tables.proofs.Rows.{every, every-at}
 
 -- ---- the test
 
-abbrev onlyMinus : List ℤ → Bool
-onlyMinus [] = true
-onlyMinus (pos n ∷ zs) = false
-onlyMinus (negsuc zero ∷ zs) = onlyMinus zs
-onlyMinus (negsuc (suc n) ∷ zs) = false
+abbrev only_minus : List ℤ → Bool
+only_minus [] = true
+only_minus (pos n ∷ zs) = false
+only_minus (negsuc zero ∷ zs) = only_minus zs
+only_minus (negsuc (suc n) ∷ zs) = false
 
-abbrev allEdges : List ℕ → Bool
-allEdges [] = true
-allEdges (x ∷ xs) = ltb x 12 && allEdges xs
+abbrev all_edges : List ℕ → Bool
+all_edges [] = true
+all_edges (x ∷ xs) = ltb x 12 && all_edges xs
 
-abbrev sameAsCorners : ℕ → List ℤ → ℕ → List ℕ → Bool
-sameAsCorners s r e ends = beq (member e (named r)) (cornersDiffer s e)
+abbrev same_as_corners : ℕ → List ℤ → ℕ → List ℕ → Bool
+same_as_corners s r e ends = beq (member e (named r)) (corners_differ s e)
 
 abbrev right : ℕ → List ℤ → Bool
 right s r =
     eqb (length r) 16
     && (eqb (length (named r) % 3) 0
-    && (leb (length (named r)) 15 && (onlyMinus (drop (length (named r)) r) && (allEdges (named r) && every (sameAsCorners s r) 0 edgeConnection))))
+    && (leb (length (named r)) 15 && (only_minus (drop (length (named r)) r) && (all_edges (named r) && every (same_as_corners s r) 0 edge_connection))))
 
 -- ---- what a passed test says
 
-onlyMinus-at : (zs : List ℤ) → T (onlyMinus zs) → (k : ℕ) → k < length zs → get_or zs k (pos 0) ≡ negsuc 0
-onlyMinus-at [] t k h = absurd (not-suc-le-zero h)
-onlyMinus-at (pos n ∷ zs) t k h = absurd t
-onlyMinus-at (negsuc (suc n) ∷ zs) t k h = absurd t
-onlyMinus-at (negsuc zero ∷ zs) t zero h = refl
-onlyMinus-at (negsuc zero ∷ zs) t (suc k) h = onlyMinus-at zs t k (le_of_suc-le-suc h)
+only_minus-at : (zs : List ℤ) → T (only_minus zs) → (k : ℕ) → k < length zs → get_or zs k (pos 0) ≡ negsuc 0
+only_minus-at [] t k h = absurd (not-suc-le-zero h)
+only_minus-at (pos n ∷ zs) t k h = absurd t
+only_minus-at (negsuc (suc n) ∷ zs) t k h = absurd t
+only_minus-at (negsuc zero ∷ zs) t zero h = refl
+only_minus-at (negsuc zero ∷ zs) t (suc k) h = only_minus-at zs t k (le_of_suc-le-suc h)
 
-allEdges-member : (e : ℕ) (xs : List ℕ) → T (allEdges xs) → 12 ≤ e → member e xs ≡ false
-allEdges-member e [] t h = refl
-allEdges-member e (x ∷ xs) t h =
-    let l : x < 12 = leb→le (suc x) 12 (both_left (ltb x 12) (allEdges xs) t) in
+all_edges-member : (e : ℕ) (xs : List ℕ) → T (all_edges xs) → 12 ≤ e → member e xs ≡ false
+all_edges-member e [] t h = refl
+all_edges-member e (x ∷ xs) t h =
+    let l : x < 12 = leb→le (suc x) 12 (both_left (ltb x 12) (all_edges xs) t) in
     let n : eqb e x ≡ false = ne_eqb e x (λ q. omega (arith, q)) in
-    ap (λ (b : Bool). b || member e xs) n ∙ allEdges-member e xs (both_right (ltb x 12) (allEdges xs) t) h
+    ap (λ (b : Bool). b || member e xs) n ∙ all_edges-member e xs (both_right (ltb x 12) (all_edges xs) t) h
 
-allEdges-at : (xs : List ℕ) → T (allEdges xs) → (k : ℕ) → k < length xs → get_or xs k 0 < 12
-allEdges-at [] t k h = absurd (not-suc-le-zero h)
-allEdges-at (x ∷ xs) t zero h = leb→le (suc x) 12 (both_left (ltb x 12) (allEdges xs) t)
-allEdges-at (x ∷ xs) t (suc k) h = allEdges-at xs (both_right (ltb x 12) (allEdges xs) t) k (le_of_suc-le-suc h)
+all_edges-at : (xs : List ℕ) → T (all_edges xs) → (k : ℕ) → k < length xs → get_or xs k 0 < 12
+all_edges-at [] t k h = absurd (not-suc-le-zero h)
+all_edges-at (x ∷ xs) t zero h = leb→le (suc x) 12 (both_left (ltb x 12) (all_edges xs) t)
+all_edges-at (x ∷ xs) t (suc k) h = all_edges-at xs (both_right (ltb x 12) (all_edges xs) t) k (le_of_suc-le-suc h)
 
-all_right : T (every right 0 triangleConnection)
-unfolding triangleConnection edgeConnection
+all_right : T (every right 0 triangle_connection)
+unfolding triangle_connection edge_connection
 all_right = tt
 
-rows-length : length triangleConnection ≡ 256
-unfolding triangleConnection
+rows-length : length triangle_connection ≡ 256
+unfolding triangle_connection
 rows-length = refl
 
-edges-length : length edgeConnection ≡ 12
-unfolding edgeConnection
+edges-length : length edge_connection ≡ 12
+unfolding edge_connection
 edges-length = refl
 
-crossed-at : (s : ℕ) (r : List ℤ) → T (allEdges (named r)) → T (every (sameAsCorners s r) 0 edgeConnection) → (e : ℕ) → (e < 12) ⊎ (12 ≤ e)
-    → member e (named r) ≡ cornersDiffer s e
-crossed-at s r t u e (inl h) = beq-eq _ _ (every-at (sameAsCorners s r) [] edgeConnection u e (subst (λ (n : ℕ). e < n) (sym edges-length) h))
-crossed-at s r t u e (inr h) = allEdges-member e (named r) t h ∙ rw (le-ltb e 12 h)
+crossed-at : (s : ℕ) (r : List ℤ) → T (all_edges (named r)) → T (every (same_as_corners s r) 0 edge_connection) → (e : ℕ) → (e < 12) ⊎ (12 ≤ e)
+    → member e (named r) ≡ corners_differ s e
+crossed-at s r t u e (inl h) = beq-eq _ _ (every-at (same_as_corners s r) [] edge_connection u e (subst (λ (n : ℕ). e < n) (sym edges-length) h))
+crossed-at s r t u e (inr h) = all_edges-member e (named r) t h ∙ rw (le-ltb e 12 h)
 
 named-at : (r : List ℤ) (k : ℕ) → k < length (named r) → get_or r k (pos 0) ≡ pos (get_or (named r) k 0)
 named-at [] k h = absurd (not-suc-le-zero h)
@@ -82,16 +82,16 @@ named-at (pos e ∷ r) zero h = refl
 named-at (pos e ∷ r) (suc k) h = named-at r k (le_of_suc-le-suc h)
 
 passed : (s : ℕ) → T (right s (row s)) → RowRule s
-unfolding rowEdges
+unfolding row_edges
 passed s t =
     let r = row s in
     let n = length (named r) in
     let b1 = eqb (length r) 16 in
     let b2 = eqb (n % 3) 0 in
     let b3 = leb n 15 in
-    let b4 = onlyMinus (drop n r) in
-    let b5 = allEdges (named r) in
-    let b6 = every (sameAsCorners s r) 0 edgeConnection in
+    let b4 = only_minus (drop n r) in
+    let b5 = all_edges (named r) in
+    let b6 = every (same_as_corners s r) 0 edge_connection in
     let t2 : T (b2 && (b3 && (b4 && (b5 && b6)))) = both_right b1 (b2 && (b3 && (b4 && (b5 && b6)))) t in
     let t3 : T (b3 && (b4 && (b5 && b6))) = both_right b2 (b3 && (b4 && (b5 && b6))) t2 in
     let t4 : T (b4 && (b5 && b6)) = both_right b3 (b4 && (b5 && b6)) t3 in
@@ -101,15 +101,15 @@ passed s t =
       sixteen = len;
       threes = eqb→eq (n % 3) 0 (both_left b2 (b3 && (b4 && (b5 && b6))) t2);
       most = leb→le n 15 (both_left b3 (b4 && (b5 && b6)) t3);
-      edge = allEdges-at (named r) (both_left b5 b6 t5);
+      edge = all_edges-at (named r) (both_left b5 b6 t5);
       first = named-at r;
       rest = λ k lo hi.
           let e : n + (k - n) ≡ k = omega arith in
           let h : k - n < length (drop n r) = simp length-drop (omega arith) in
-          ap (λ (j : ℕ). get_or r j (pos 0)) (sym e) ∙ (sym (get_or-drop n r (k - n) (pos 0)) ∙ onlyMinus-at (drop n r) (both_left b4 (b5 && b6) t4) (k - n) h);
+          ap (λ (j : ℕ). get_or r j (pos 0)) (sym e) ∙ (sym (get_or-drop n r (k - n) (pos 0)) ∙ only_minus-at (drop n r) (both_left b4 (b5 && b6) t4) (k - n) h);
       crossed = λ e. crossed-at s r (both_left b5 b6 t5) (both_right b5 b6 t5) e (lt-or-ge e 12);
     }
 
 -- the rule holds at every row
 pub row-rule : (s : ℕ) → s < 256 → RowRule s
-row-rule s h = passed s (every-at right [] triangleConnection all_right s (subst (λ (n : ℕ). s < n) (sym rows-length) h))
+row-rule s h = passed s (every-at right [] triangle_connection all_right s (subst (λ (n : ℕ). s < n) (sym rows-length) h))

@@ -16,8 +16,8 @@ corners =
     []
 
 -- the two corners of each edge, in the order in which an edge runs
-unfoldable pub edgeConnection : List (List ℕ)
-edgeConnection =
+unfoldable pub edge_connection : List (List ℕ)
+edge_connection =
     (0 ∷ 1 ∷ []) ∷
     (1 ∷ 2 ∷ []) ∷
     (2 ∷ 3 ∷ []) ∷
@@ -33,8 +33,8 @@ edgeConnection =
     []
 
 -- a row of 16 for each sign byte
-unfoldable pub triangleConnection : List (List ℤ)
-triangleConnection =
+unfoldable pub triangle_connection : List (List ℤ)
+triangle_connection =
     (negsuc 0 ∷ negsuc 0 ∷ negsuc 0 ∷ negsuc 0 ∷ negsuc 0 ∷ negsuc 0 ∷ negsuc 0 ∷ negsuc 0 ∷ negsuc 0 ∷ negsuc 0 ∷ negsuc 0 ∷ negsuc 0 ∷ negsuc 0 ∷ negsuc 0 ∷ negsuc 0 ∷ negsuc 0 ∷ []) ∷
     (pos 0 ∷ pos 8 ∷ pos 3 ∷ negsuc 0 ∷ negsuc 0 ∷ negsuc 0 ∷ negsuc 0 ∷ negsuc 0 ∷ negsuc 0 ∷ negsuc 0 ∷ negsuc 0 ∷ negsuc 0 ∷ negsuc 0 ∷ negsuc 0 ∷ negsuc 0 ∷ negsuc 0 ∷ []) ∷
     (pos 0 ∷ pos 1 ∷ pos 9 ∷ negsuc 0 ∷ negsuc 0 ∷ negsuc 0 ∷ negsuc 0 ∷ negsuc 0 ∷ negsuc 0 ∷ negsuc 0 ∷ negsuc 0 ∷ negsuc 0 ∷ negsuc 0 ∷ negsuc 0 ∷ negsuc 0 ∷ negsuc 0 ∷ []) ∷
@@ -294,16 +294,16 @@ triangleConnection =
     []
 
 -- the offset, 0 or 1, of a corner along an axis
-abbrev pub cornerOffset : ℕ → ℕ → ℕ
-cornerOffset c axis = get_or (get_or corners c []) axis 0
+abbrev pub corner_offset : ℕ → ℕ → ℕ
+corner_offset c axis = get_or (get_or corners c []) axis 0
 
 -- the corner at an end, 0 or 1, of the edge e
-abbrev pub edgeEnd : ℕ → ℕ → ℕ
-edgeEnd e end = get_or (get_or edgeConnection e []) end 0
+abbrev pub edge_end : ℕ → ℕ → ℕ
+edge_end e end = get_or (get_or edge_connection e []) end 0
 
 -- the row of the sign byte s
 abbrev pub row : ℕ → List ℤ
-row s = get_or triangleConnection s []
+row s = get_or triangle_connection s []
 
 -- the rows one after the other
 abbrev pub flat : {A : Type 0} → List (List A) → List A
@@ -311,6 +311,6 @@ flat [] = []
 flat (r ∷ rs) = r ++ flat rs
 
 -- the triangle table as the code holds it: row s starts at 16 * s
-unfoldable pub triangleTable : List ℤ
-unfolding triangleConnection
-triangleTable = flat triangleConnection
+unfoldable pub triangle_table : List ℤ
+unfolding triangle_connection
+triangle_table = flat triangle_connection

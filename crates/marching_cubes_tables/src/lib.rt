@@ -4,7 +4,7 @@
 mod triangle_connection;
 
 ghost use Rattle.std.specs.Prelude.{◌≡◌, ◌<◌, get_or, pos};
-ghost use Rattle.marching_cubes_tables.specs.Tables.{triangleTable, cornerOffset, edgeEnd, row};
+ghost use Rattle.marching_cubes_tables.specs.Tables.{triangle_table, corner_offset, edge_end, row};
 
 const CORNERS: [[usize; 3]; 8] = [
     [0, 0, 0],
@@ -35,7 +35,7 @@ const EDGE_CONNECTION: [[usize; 2]; 12] = [
 // The offset, 0 or 1, of a corner along an axis.
 pub fn corner(c: usize, axis: usize) -> usize
     requires { (c < 8) × (axis < 3) }
-    ensures { result ≡ cornerOffset c axis }
+    ensures { result ≡ corner_offset c axis }
 {
     CORNERS[c][axis]
 }
@@ -43,21 +43,21 @@ pub fn corner(c: usize, axis: usize) -> usize
 // The corner at an end of an edge.
 pub fn edge_end(e: usize, end: usize) -> usize
     requires { (e < 12) × (end < 2) }
-    ensures { result ≡ edgeEnd e end }
+    ensures { result ≡ edge_end e end }
 {
     EDGE_CONNECTION[e][end]
 }
 
 // The triangle table as a value, to be made once and lent.
 pub fn triangle_table() -> [i8; 4096]
-    ensures { result ≡ triangleTable }
+    ensures { result ≡ triangle_table }
 {
     triangle_connection::TRIANGLE_CONNECTION
 }
 
 // Entry k of the row of the sign byte s, in the lent table.
 pub fn triangle(table: &[i8; 4096], s: usize, k: usize) -> i8
-    requires { (table.now ≡ triangleTable) × ((s < 256) × (k < 16)) }
+    requires { (table.now ≡ triangle_table) × ((s < 256) × (k < 16)) }
     ensures { result ≡ get_or (row s) k (pos 0) }
 {
     table[16 * s + k]

@@ -5,10 +5,10 @@ use mathlib.Core.List.{List, [], ◌∷◌, ◌++◌, map}
 use Prim.Native.Nat.{ℕ}
 use lib.ListN.{take, set}
 use Rattle.little_endian.specs.Words.{word_at, word_bytes, bytes_of}
-use Rattle.mesh_record.specs.Mesh.{recordBytes}
-use Rattle.mesh_record.specs.Refusals.{none, malformed, badSize, badNumbering, opening, lowestBad, contents}
+use Rattle.mesh_record.specs.Mesh.{record_bytes}
+use Rattle.mesh_record.specs.Refusals.{none, malformed, bad_size, bad_numbering, opening, lowest_bad, contents}
 use Rattle.mesh_record.proofs.Cases.{triangle}
-use Rattle.mesh_checks.specs.Reading.{meshIn, fieldsIn, refusalIn}
+use Rattle.mesh_checks.specs.Reading.{mesh_in, fields_in, refusal_in}
 
 -- the words of W3's record: seven of the header, nine coordinates, three indices
 written : List ℕ
@@ -22,12 +22,12 @@ changed place word = bytes_of (set written place word)
 headed : ℕ → ℕ → ℕ → ℕ → ℕ → ℕ → ℕ → List ℕ
 headed a b c d e f g = bytes_of (a ∷ b ∷ c ∷ d ∷ e ∷ f ∷ g ∷ [])
 
-cases : map refusalIn (
-    recordBytes triangle ∷
+cases : map refusal_in (
+    record_bytes triangle ∷
     headed 1 2 0 0 28 0 28 ∷
     -- too short: the place is the length
     [] ∷
-    take 27 (recordBytes triangle) ∷
+    take 27 (record_bytes triangle) ∷
     -- the words of the header, one by one
     changed 0 2 ∷
     changed 1 1 ∷
@@ -39,8 +39,8 @@ cases : map refusalIn (
     changed 3 2 ∷
     -- three indices more than there are; cut by a byte, and longer by one
     changed 5 6 ∷
-    take 75 (recordBytes triangle) ∷
-    (recordBytes triangle ++ (0 ∷ [])) ∷
+    take 75 (record_bytes triangle) ∷
+    (record_bytes triangle ++ (0 ∷ [])) ∷
     -- infinities and a NaN; the largest finite float and minus zero
     changed 7 0x7F800000 ∷
     changed 15 0xFF800000 ∷
@@ -64,9 +64,9 @@ cases : map refusalIn (
     malformed 0 ∷
     malformed 27 ∷
     malformed 0 ∷
-    badSize ∷
-    badSize ∷
-    badNumbering ∷
+    bad_size ∷
+    bad_size ∷
+    bad_numbering ∷
     malformed 16 ∷
     malformed 20 ∷
     malformed 24 ∷
@@ -82,12 +82,12 @@ cases : map refusalIn (
     malformed 64 ∷
     malformed 72 ∷
     malformed 0 ∷
-    badSize ∷
-    badNumbering ∷
+    bad_size ∷
+    bad_numbering ∷
     malformed 16 ∷
     malformed 20 ∷
     malformed 24 ∷
     malformed 60 ∷
     []
-unfolding triangle written changed headed word_bytes word_at meshIn fieldsIn refusalIn opening contents lowestBad
+unfolding triangle written changed headed word_bytes word_at mesh_in fields_in refusal_in opening contents lowest_bad
 cases = refl

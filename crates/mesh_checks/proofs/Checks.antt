@@ -7,27 +7,27 @@ use lib.ListN.{length}
 use borrow.Author.Tests.{eq-eqb, ne_eqb}
 use Rattle.little_endian.specs.Words.{word_at}
 use Rattle.mesh_record.specs.Refusals.{none, malformed}
-use Rattle.mesh_checks.specs.Reading.{fieldsIn}
+use Rattle.mesh_checks.specs.Reading.{fields_in}
 
 module _ (bytes : List ℕ) where
-  pub fieldsIn-vertices : word_at bytes 16 ≢ 28 → malformed 16 ≡ fieldsIn bytes
-  unfolding fieldsIn
-  fieldsIn-vertices h = rw (ne_eqb (word_at bytes 16) 28 h)
+  pub fields_in-vertices : word_at bytes 16 ≢ 28 → malformed 16 ≡ fields_in bytes
+  unfolding fields_in
+  fields_in-vertices h = rw (ne_eqb (word_at bytes 16) 28 h)
 
   module _ (vertices : word_at bytes 16 ≡ 28) where
-    pub fieldsIn-count : word_at bytes 20 % 3 ≢ 0 → malformed 20 ≡ fieldsIn bytes
-    unfolding fieldsIn
-    fieldsIn-count h = rw (eq-eqb (word_at bytes 16) 28 vertices, ne_eqb (word_at bytes 20 % 3) 0 h)
+    pub fields_in-count : word_at bytes 20 % 3 ≢ 0 → malformed 20 ≡ fields_in bytes
+    unfolding fields_in
+    fields_in-count h = rw (eq-eqb (word_at bytes 16) 28 vertices, ne_eqb (word_at bytes 20 % 3) 0 h)
 
     module _ (threes : word_at bytes 20 % 3 ≡ 0) where
-      pub fieldsIn-indices : word_at bytes 24 ≢ 28 + 12 * word_at bytes 12 → malformed 24 ≡ fieldsIn bytes
-      unfolding fieldsIn
-      fieldsIn-indices h = rw (eq-eqb (word_at bytes 16) 28 vertices, eq-eqb (word_at bytes 20 % 3) 0 threes, ne_eqb (word_at bytes 24) (28 + 12 * word_at bytes 12) h)
+      pub fields_in-indices : word_at bytes 24 ≢ 28 + 12 * word_at bytes 12 → malformed 24 ≡ fields_in bytes
+      unfolding fields_in
+      fields_in-indices h = rw (eq-eqb (word_at bytes 16) 28 vertices, eq-eqb (word_at bytes 20 % 3) 0 threes, ne_eqb (word_at bytes 24) (28 + 12 * word_at bytes 12) h)
 
       module _ (indices : word_at bytes 24 ≡ 28 + 12 * word_at bytes 12) where
-        pub fieldsIn-length : length bytes ≢ 28 + 12 * word_at bytes 12 + 4 * word_at bytes 20 → malformed 24 ≡ fieldsIn bytes
-        unfolding fieldsIn
-        fieldsIn-length h =
+        pub fields_in-length : length bytes ≢ 28 + 12 * word_at bytes 12 + 4 * word_at bytes 20 → malformed 24 ≡ fields_in bytes
+        unfolding fields_in
+        fields_in-length h =
             rw (
               eq-eqb (word_at bytes 16) 28 vertices,
               eq-eqb (word_at bytes 20 % 3) 0 threes,
@@ -35,9 +35,9 @@ module _ (bytes : List ℕ) where
               ne_eqb (length bytes) (28 + 12 * word_at bytes 12 + 4 * word_at bytes 20) h,
             )
 
-        pub fieldsIn-passed : length bytes ≡ 28 + 12 * word_at bytes 12 + 4 * word_at bytes 20 → none ≡ fieldsIn bytes
-        unfolding fieldsIn
-        fieldsIn-passed h =
+        pub fields_in-passed : length bytes ≡ 28 + 12 * word_at bytes 12 + 4 * word_at bytes 20 → none ≡ fields_in bytes
+        unfolding fields_in
+        fields_in-passed h =
             rw (
               eq-eqb (word_at bytes 16) 28 vertices,
               eq-eqb (word_at bytes 20 % 3) 0 threes,

@@ -10,9 +10,9 @@ use lib.ListN.{length}
 use borrow.Author.Tests.{ltb-false, eqb-true, not-false, lt-ltb, le-ltb, eq-eqb, ne_eqb}
 use Rattle.little_endian.specs.Words.{word_at}
 use Rattle.mesh_record.specs.declared.Refusal.{Refusal}
-use Rattle.mesh_record.specs.Refusals.{none, malformed, or_else, differ, inThrees, opening, contents}
+use Rattle.mesh_record.specs.Refusals.{none, malformed, or_else, differ, in_threes, opening, contents}
 use Rattle.mesh_record.proofs.Passed.{check-passed, part-passed, Opened, opening-known, Sound, contents-known}
-use Rattle.mesh_checks.specs.Reading.{meshIn, fieldsIn, refusalIn}
+use Rattle.mesh_checks.specs.Reading.{mesh_in, fields_in, refusal_in}
 
 pub record Fields (bytes : List ℕ) : Type 0 where
   pub vertices-at : word_at bytes 16 ≡ 28
@@ -20,13 +20,13 @@ pub record Fields (bytes : List ℕ) : Type 0 where
   pub indices-at : word_at bytes 24 ≡ 28 + 12 * word_at bytes 12
   pub whole : length bytes ≡ 28 + 12 * word_at bytes 12 + 4 * word_at bytes 20
 
-pub fieldsIn-known : (bytes : List ℕ) → (fieldsIn bytes).cause ≡ 0 → Fields bytes
-unfolding fieldsIn
-fieldsIn-known bytes h =
+pub fields_in-known : (bytes : List ℕ) → (fields_in bytes).cause ≡ 0 → Fields bytes
+unfolding fields_in
+fields_in-known bytes h =
     let last = cond (differ (length bytes) (28 + 12 * word_at bytes 12 + 4 * word_at bytes 20)) (malformed 24) none in
     let later = cond (differ (word_at bytes 24) (28 + 12 * word_at bytes 12)) (malformed 24) last in
-    let one = check-passed (differ (word_at bytes 16) 28) (malformed 16) (cond (not (inThrees (word_at bytes 20))) (malformed 20) later) (lit≤ tt) h in
-    let two = check-passed (not (inThrees (word_at bytes 20))) (malformed 20) later (lit≤ tt) one.1 in
+    let one = check-passed (differ (word_at bytes 16) 28) (malformed 16) (cond (not (in_threes (word_at bytes 20))) (malformed 20) later) (lit≤ tt) h in
+    let two = check-passed (not (in_threes (word_at bytes 20))) (malformed 20) later (lit≤ tt) one.1 in
     let three = check-passed (differ (word_at bytes 24) (28 + 12 * word_at bytes 12)) (malformed 24) last (lit≤ tt) two.1 in
     let four = check-passed (differ (length bytes) (28 + 12 * word_at bytes 12 + 4 * word_at bytes 20)) (malformed 24) none (lit≤ tt) three.1 in
     record {
@@ -39,27 +39,27 @@ fieldsIn-known bytes h =
 -- ---- a record, from its parts
 
 module _ (bytes : List ℕ) where
-  pub refusalIn-short : length bytes < 28 → malformed (length bytes) ≡ refusalIn bytes
-  unfolding refusalIn
-  refusalIn-short h = rw (lt-ltb (length bytes) 28 h)
+  pub refusal_in-short : length bytes < 28 → malformed (length bytes) ≡ refusal_in bytes
+  unfolding refusal_in
+  refusal_in-short h = rw (lt-ltb (length bytes) 28 h)
 
   module _ (long : 28 ≤ length bytes) (version size numbering : ℕ) (first : Refusal) (hv : version ≡ word_at bytes 0) (hs : size ≡ word_at bytes 4)
       (hw : numbering ≡ word_at bytes 8) (is : first ≡ opening version size numbering) where
     opened : first ≡ opening (word_at bytes 0) (word_at bytes 4) (word_at bytes 8)
     opened = is ∙ rw (hv, hs, hw)
 
-    pub refusalIn-opening : first.cause ≢ 0 → first ≡ refusalIn bytes
-    unfolding refusalIn
-    refusalIn-opening h = rw (le-ltb (length bytes) 28 long, ← opened, ne_eqb first.cause 0 h)
+    pub refusal_in-opening : first.cause ≢ 0 → first ≡ refusal_in bytes
+    unfolding refusal_in
+    refusal_in-opening h = rw (le-ltb (length bytes) 28 long, ← opened, ne_eqb first.cause 0 h)
 
-    module _ (first-passed : first.cause ≡ 0) (second : Refusal) (fields : second ≡ fieldsIn bytes) where
-      pub refusalIn-fields : second.cause ≢ 0 → second ≡ refusalIn bytes
-      unfolding refusalIn
-      refusalIn-fields h = rw (le-ltb (length bytes) 28 long, ← opened, eq-eqb first.cause 0 first-passed, ← fields, ne_eqb second.cause 0 h)
+    module _ (first-passed : first.cause ≡ 0) (second : Refusal) (fields : second ≡ fields_in bytes) where
+      pub refusal_in-fields : second.cause ≢ 0 → second ≡ refusal_in bytes
+      unfolding refusal_in
+      refusal_in-fields h = rw (le-ltb (length bytes) 28 long, ← opened, eq-eqb first.cause 0 first-passed, ← fields, ne_eqb second.cause 0 h)
 
-      pub refusalIn-contents : second.cause ≡ 0 → (third : Refusal) → third ≡ contents 28 (meshIn bytes) → third ≡ refusalIn bytes
-      unfolding refusalIn
-      refusalIn-contents h third is =
+      pub refusal_in-contents : second.cause ≡ 0 → (third : Refusal) → third ≡ contents 28 (mesh_in bytes) → third ≡ refusal_in bytes
+      unfolding refusal_in
+      refusal_in-contents h third is =
           rw (le-ltb (length bytes) 28 long, ← opened, eq-eqb first.cause 0 first-passed, ← fields, eq-eqb second.cause 0 h) is
 
 -- what is known of a record in which nothing is refused
@@ -67,20 +67,20 @@ pub record Whole (bytes : List ℕ) : Type 0 where
   pub long : 28 ≤ length bytes
   pub opened : Opened (word_at bytes 0) (word_at bytes 4) (word_at bytes 8)
   pub fields : Fields bytes
-  pub sound : Sound (meshIn bytes)
+  pub sound : Sound (mesh_in bytes)
 
-pub refusalIn-known : (bytes : List ℕ) → (refusalIn bytes).cause ≡ 0 → Whole bytes
-unfolding refusalIn
-refusalIn-known bytes h =
+pub refusal_in-known : (bytes : List ℕ) → (refusal_in bytes).cause ≡ 0 → Whole bytes
+unfolding refusal_in
+refusal_in-known bytes h =
     let first = opening (word_at bytes 0) (word_at bytes 4) (word_at bytes 8) in
-    let second = fieldsIn bytes in
-    let third = contents 28 (meshIn bytes) in
+    let second = fields_in bytes in
+    let third = contents 28 (mesh_in bytes) in
     let long = check-passed (ltb (length bytes) 28) (malformed (length bytes)) (or_else first (or_else second third)) (lit≤ tt) h in
     let parts = part-passed first (or_else second third) long.1 in
     let rest = part-passed second third parts.1 in
     record {
       long = ltb-false (length bytes) 28 long.0;
       opened = opening-known (word_at bytes 0) (word_at bytes 4) (word_at bytes 8) parts.0;
-      fields = fieldsIn-known bytes rest.0;
-      sound = contents-known 28 (meshIn bytes) rest.1;
+      fields = fields_in-known bytes rest.0;
+      sound = contents-known 28 (mesh_in bytes) rest.1;
     }

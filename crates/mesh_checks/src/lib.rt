@@ -1,9 +1,9 @@
 // The refusals of a mesh record, in document 02's order (CR 1). The bytes are only read.
 ghost use Rattle.std.specs.Prelude.{◌≡◌, ◌+◌, ◌*◌, ◌≤◌, length};
-ghost use Rattle.little_endian.specs.Words.{word_at, wordsFrom};
+ghost use Rattle.little_endian.specs.Words.{word_at, words_from};
 ghost use Rattle.mesh_record.specs.Mesh.{finite, below};
-ghost use Rattle.mesh_record.specs.Refusals.{lowestBad, contents};
-ghost use Rattle.mesh_checks.specs.Reading.{meshIn, fieldsIn, refusalIn};
+ghost use Rattle.mesh_record.specs.Refusals.{lowest_bad, contents};
+ghost use Rattle.mesh_checks.specs.Reading.{mesh_in, fields_in, refusal_in};
 
 use little_endian::word_at;
 use mesh_record::{Refusal, is_finite, opening, refused};
@@ -11,7 +11,7 @@ use mesh_record::{Refusal, is_finite, opening, refused};
 // The fields after the numbering, and the length. No product passes 2^36.
 fn fields_in(bytes: &[u8]) -> Refusal
     requires { 28 ≤ length bytes.now }
-    ensures { result ≡ fieldsIn bytes.now }
+    ensures { result ≡ fields_in bytes.now }
 {
     let vertices = word_at(bytes, 12) as u64;
     let indices = word_at(bytes, 20) as u64;
@@ -33,7 +33,7 @@ fn fields_in(bytes: &[u8]) -> Refusal
 // The first coordinate that is not finite among so many words from a byte place on, or their number.
 fn lowest_infinite(bytes: &[u8], at: usize, count: usize) -> usize
     requires { at + 4 * count ≤ length bytes.now }
-    ensures { result ≡ lowestBad finite (wordsFrom bytes.now at count) }
+    ensures { result ≡ lowest_bad finite (words_from bytes.now at count) }
 {
     let mut i = 0;
     while i < count {
@@ -49,7 +49,7 @@ fn lowest_infinite(bytes: &[u8], at: usize, count: usize) -> usize
 // number.
 fn lowest_beyond(bytes: &[u8], at: usize, count: usize, limit: u32) -> usize
     requires { at + 4 * count ≤ length bytes.now }
-    ensures { result ≡ lowestBad (below limit) (wordsFrom bytes.now at count) }
+    ensures { result ≡ lowest_bad (below limit) (words_from bytes.now at count) }
 {
     let mut i = 0;
     while i < count {
@@ -64,7 +64,7 @@ fn lowest_beyond(bytes: &[u8], at: usize, count: usize, limit: u32) -> usize
 // The lowest bad vertex or index of a record whose header and length are right.
 fn contents_in(bytes: &[u8]) -> Refusal
     requires { length bytes.now ≡ 28 + 12 * word_at bytes.now 12 + 4 * word_at bytes.now 20 }
-    ensures { result ≡ contents 28 (meshIn bytes.now) }
+    ensures { result ≡ contents 28 (mesh_in bytes.now) }
 {
     let vertices = word_at(bytes, 12);
     let floats = 3 * (vertices as usize);
@@ -83,7 +83,7 @@ fn contents_in(bytes: &[u8]) -> Refusal
 
 // The first refusal of a record, or none.
 pub fn refusal_in(bytes: &[u8]) -> Refusal
-    ensures { result ≡ refusalIn bytes.now }
+    ensures { result ≡ refusal_in bytes.now }
 {
     if bytes.len() < 28 {
         return refused(8, bytes.len() as u64);

@@ -7,12 +7,12 @@ use native.Mathlib.Omega.{arith}
 use lib.ListN.{length}
 use lib.Ieee.{Float, binary32, of_bits}
 use borrow.Author.Tests.{lt-ltb, le-ltb, eq-eqb, ne_eqb}
-use Rattle.little_endian.specs.Words.{word_at, wordsFrom, over}
+use Rattle.little_endian.specs.Words.{word_at, words_from, over}
 use Rattle.mesh_read.specs.declared.ReadAnswer.{ReadAnswer}
 use Rattle.mesh_record.specs.Mesh.{Mesh}
-use Rattle.mesh_checks.specs.Reading.{meshIn, refusalIn}
+use Rattle.mesh_checks.specs.Reading.{mesh_in, refusal_in}
 use Rattle.mesh_read.specs.Reading.{left, refused, short, done, copied, reading}
-use Rattle.mesh_checks.proofs.Contents.{coordinates-length, indices-length, meshIn-vertices}
+use Rattle.mesh_checks.proofs.Contents.{coordinates-length, indices-length, mesh_in-vertices}
 
 module _ (m : Mesh) (coordinates : List Float) (indices : List ℕ) where
   pub copied-few-coordinates : length coordinates < length m.coordinates → left (short m) coordinates indices ≡ copied m coordinates indices
@@ -32,47 +32,47 @@ module _ (m : Mesh) (coordinates : List Float) (indices : List ℕ) where
 -- the same with the counts as the code reads them
 module _ (bytes : List ℕ) (coordinates : List Float) (indices : List ℕ) (whole : length bytes ≡ 28 + 12 * word_at bytes 12 + 4 * word_at bytes 20)
     (vertices count : ℕ) (hv : vertices ≡ word_at bytes 12) (hk : count ≡ word_at bytes 20) where
-  abbrev shortBy : ℕ → ℕ → ReadAnswer
-  shortBy v k = record { cause = 10; size = 0; numbering = 0; place = 0; vertices = v; indices = k }
+  abbrev short_by : ℕ → ℕ → ReadAnswer
+  short_by v k = record { cause = 10; size = 0; numbering = 0; place = 0; vertices = v; indices = k }
 
-  short-is : shortBy vertices count ≡ short (meshIn bytes)
-  short-is = ap₂ shortBy (hv ∙ sym (meshIn-vertices bytes whole)) (hk ∙ sym (indices-length bytes whole))
+  short-is : short_by vertices count ≡ short (mesh_in bytes)
+  short-is = ap₂ short_by (hv ∙ sym (mesh_in-vertices bytes whole)) (hk ∙ sym (indices-length bytes whole))
 
-  module _ (answer : ReadAnswer) (is : answer ≡ shortBy vertices count) where
-    pub few-coordinates : length coordinates < 3 * vertices → left answer coordinates indices ≡ copied (meshIn bytes) coordinates indices
+  module _ (answer : ReadAnswer) (is : answer ≡ short_by vertices count) where
+    pub few-coordinates : length coordinates < 3 * vertices → left answer coordinates indices ≡ copied (mesh_in bytes) coordinates indices
     few-coordinates h =
         ap (λ (a : ReadAnswer). left a coordinates indices) (is ∙ short-is)
-        ∙ copied-few-coordinates (meshIn bytes) coordinates indices (omega (arith, h, hv, coordinates-length bytes whole))
+        ∙ copied-few-coordinates (mesh_in bytes) coordinates indices (omega (arith, h, hv, coordinates-length bytes whole))
 
-    pub few-indices : 3 * vertices ≤ length coordinates → length indices < count → left answer coordinates indices ≡ copied (meshIn bytes) coordinates indices
+    pub few-indices : 3 * vertices ≤ length coordinates → length indices < count → left answer coordinates indices ≡ copied (mesh_in bytes) coordinates indices
     few-indices r h =
         ap (λ (a : ReadAnswer). left a coordinates indices) (is ∙ short-is)
-        ∙ copied-few-indices (meshIn bytes) coordinates indices (omega (arith, r, hv, coordinates-length bytes whole)) (omega (arith, h, hk, indices-length bytes whole))
+        ∙ copied-few-indices (mesh_in bytes) coordinates indices (omega (arith, r, hv, coordinates-length bytes whole)) (omega (arith, h, hk, indices-length bytes whole))
 
-  abbrev doneBy : ℕ → ℕ → ℕ → ℕ → ReadAnswer
-  doneBy s w v k = record { cause = 0; size = s; numbering = w; place = 0; vertices = v; indices = k }
+  abbrev done_by : ℕ → ℕ → ℕ → ℕ → ReadAnswer
+  done_by s w v k = record { cause = 0; size = s; numbering = w; place = 0; vertices = v; indices = k }
 
   pub enough-room : (size numbering : ℕ) (floats : List Float) (words : List ℕ) → size ≡ word_at bytes 4 → numbering ≡ word_at bytes 8
-      → floats ≡ over (map (of_bits binary32) (wordsFrom bytes 28 (3 * vertices))) coordinates → words ≡ over (wordsFrom bytes (28 + 12 * vertices) count) indices
+      → floats ≡ over (map (of_bits binary32) (words_from bytes 28 (3 * vertices))) coordinates → words ≡ over (words_from bytes (28 + 12 * vertices) count) indices
       → 3 * vertices ≤ length coordinates → count ≤ length indices
-      → left (doneBy size numbering vertices count) floats words ≡ copied (meshIn bytes) coordinates indices
-  unfolding meshIn
+      → left (done_by size numbering vertices count) floats words ≡ copied (mesh_in bytes) coordinates indices
+  unfolding mesh_in
   enough-room size numbering floats words hs hw hf hi r q =
-      let answer : doneBy size numbering vertices count ≡ done (meshIn bytes) =
-      ap₂ (λ (s w : ℕ). doneBy s w vertices count) hs hw
-      ∙ ap₂ (doneBy (word_at bytes 4) (word_at bytes 8)) (hv ∙ sym (meshIn-vertices bytes whole)) (hk ∙ sym (indices-length bytes whole)) in
-      let front : floats ≡ over (map (of_bits binary32) (meshIn bytes).coordinates) coordinates =
-      hf ∙ ap (λ (v : ℕ). over (map (of_bits binary32) (wordsFrom bytes 28 (3 * v))) coordinates) hv in
-      let list : words ≡ over (meshIn bytes).indices indices = hi ∙ ap₂ (λ (v k : ℕ). over (wordsFrom bytes (28 + 12 * v) k) indices) hv hk in
-      ap₂ (λ (f : List Float) (l : List ℕ). left (doneBy size numbering vertices count) f l) front list
-      ∙ ap (λ (a : ReadAnswer). left a (over (map (of_bits binary32) (meshIn bytes).coordinates) coordinates) (over (meshIn bytes).indices indices)) answer
-      ∙ copied-done (meshIn bytes) coordinates indices (omega (arith, r, hv, coordinates-length bytes whole)) (omega (arith, q, hk, indices-length bytes whole))
+      let answer : done_by size numbering vertices count ≡ done (mesh_in bytes) =
+      ap₂ (λ (s w : ℕ). done_by s w vertices count) hs hw
+      ∙ ap₂ (done_by (word_at bytes 4) (word_at bytes 8)) (hv ∙ sym (mesh_in-vertices bytes whole)) (hk ∙ sym (indices-length bytes whole)) in
+      let front : floats ≡ over (map (of_bits binary32) (mesh_in bytes).coordinates) coordinates =
+      hf ∙ ap (λ (v : ℕ). over (map (of_bits binary32) (words_from bytes 28 (3 * v))) coordinates) hv in
+      let list : words ≡ over (mesh_in bytes).indices indices = hi ∙ ap₂ (λ (v k : ℕ). over (words_from bytes (28 + 12 * v) k) indices) hv hk in
+      ap₂ (λ (f : List Float) (l : List ℕ). left (done_by size numbering vertices count) f l) front list
+      ∙ ap (λ (a : ReadAnswer). left a (over (map (of_bits binary32) (mesh_in bytes).coordinates) coordinates) (over (mesh_in bytes).indices indices)) answer
+      ∙ copied-done (mesh_in bytes) coordinates indices (omega (arith, r, hv, coordinates-length bytes whole)) (omega (arith, q, hk, indices-length bytes whole))
 
 module _ (bytes : List ℕ) (coordinates : List Float) (indices : List ℕ) where
-  pub reading-refused : (refusalIn bytes).cause ≢ 0 → left (refused (refusalIn bytes)) coordinates indices ≡ reading bytes coordinates indices
+  pub reading-refused : (refusal_in bytes).cause ≢ 0 → left (refused (refusal_in bytes)) coordinates indices ≡ reading bytes coordinates indices
   unfolding reading
-  reading-refused h = rw (ne_eqb (refusalIn bytes).cause 0 h)
+  reading-refused h = rw (ne_eqb (refusal_in bytes).cause 0 h)
 
-  pub reading-passed : (refusalIn bytes).cause ≡ 0 → copied (meshIn bytes) coordinates indices ≡ reading bytes coordinates indices
+  pub reading-passed : (refusal_in bytes).cause ≡ 0 → copied (mesh_in bytes) coordinates indices ≡ reading bytes coordinates indices
   unfolding reading
-  reading-passed h = rw (eq-eqb (refusalIn bytes).cause 0 h)
+  reading-passed h = rw (eq-eqb (refusal_in bytes).cause 0 h)

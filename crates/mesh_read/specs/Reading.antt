@@ -4,8 +4,8 @@ use Rattle.std.specs.Float.{binary32}
 use Rattle.std.specs.Float.Ieee.{of_bits}
 use Rattle.little_endian.specs.Words.{over}
 use Rattle.mesh_record.specs.declared.Refusal.{Refusal}
-use Rattle.mesh_record.specs.Mesh.{Mesh, vertexCount}
-use Rattle.mesh_checks.specs.Reading.{meshIn, refusalIn}
+use Rattle.mesh_record.specs.Mesh.{Mesh, vertex_count}
+use Rattle.mesh_checks.specs.Reading.{mesh_in, refusal_in}
 use Rattle.mesh_read.specs.declared.ReadAnswer.{ReadAnswer}
 
 -- everything that the call leaves
@@ -22,10 +22,10 @@ refused r = record { cause = r.cause; size = 0; numbering = 0; place = r.place; 
 
 -- cause 10, with the room needed
 abbrev pub short : Mesh → ReadAnswer
-short m = record { cause = 10; size = 0; numbering = 0; place = 0; vertices = vertexCount m; indices = length m.indices }
+short m = record { cause = 10; size = 0; numbering = 0; place = 0; vertices = vertex_count m; indices = length m.indices }
 
 abbrev pub done : Mesh → ReadAnswer
-done m = record { cause = 0; size = m.size; numbering = m.numbering; place = 0; vertices = vertexCount m; indices = length m.indices }
+done m = record { cause = 0; size = m.size; numbering = m.numbering; place = 0; vertices = vertex_count m; indices = length m.indices }
 
 -- a mesh into the front of both buffers, where both have the room
 unfoldable pub copied : Mesh → List Float → List ℕ → Read
@@ -36,5 +36,5 @@ copied m coordinates indices =
 -- a refusal changes nothing
 unfoldable pub reading : List ℕ → List Float → List ℕ → Read
 reading bytes coordinates indices =
-    let r = refusalIn bytes in
-    cond (eqb r.cause 0) (copied (meshIn bytes) coordinates indices) (left (refused r) coordinates indices)
+    let r = refusal_in bytes in
+    cond (eqb r.cause 0) (copied (mesh_in bytes) coordinates indices) (left (refused r) coordinates indices)

@@ -2,7 +2,7 @@
 // lent is written only after every check has passed.
 ghost use Rattle.std.specs.Prelude.{◌≡◌, ◌+◌, ◌*◌, length};
 ghost use Rattle.little_endian.specs.Words.{word_at};
-ghost use Rattle.mesh_checks.specs.Reading.{meshIn};
+ghost use Rattle.mesh_checks.specs.Reading.{mesh_in};
 ghost use Rattle.mesh_read.specs.Reading.{left, copied, reading};
 
 use little_endian::word_at;
@@ -24,7 +24,7 @@ pub struct ReadAnswer {
 // The mesh of a record in which nothing is refused, where there is room for it.
 fn copy_mesh(bytes: &[u8], coordinates: &mut [f32], indices: &mut [u32]) -> ReadAnswer
     requires { length bytes.now ≡ 28 + 12 * word_at bytes.now 12 + 4 * word_at bytes.now 20 }
-    ensures { left result coordinates.new indices.new ≡ copied (meshIn bytes.now) coordinates.old indices.old }
+    ensures { left result coordinates.new indices.new ≡ copied (mesh_in bytes.now) coordinates.old indices.old }
 {
     let vertices = word_at(bytes, 12) as usize;
     let count = word_at(bytes, 20) as usize;

@@ -2,7 +2,7 @@
 use mathlib.Core.Path.{◌≡◌, refl}
 use mathlib.Core.List.{[], ◌∷◌}
 use Rattle.little_endian.specs.Words.{word_bytes}
-use Rattle.mesh_record.specs.Mesh.{Mesh, recordBytes}
+use Rattle.mesh_record.specs.Mesh.{Mesh, record_bytes}
 
 -- W3, joined: three vertices, one triangle
 unfoldable pub triangle : Mesh
@@ -14,7 +14,7 @@ triangle =
       indices = 0 ∷ 1 ∷ 2 ∷ [];
     }
 
-bytes : recordBytes triangle
+bytes : record_bytes triangle
     ≡ 1 ∷ 0 ∷ 0 ∷ 0 ∷ 2 ∷ 0 ∷ 0 ∷ 0 ∷ 1 ∷ 0 ∷ 0 ∷ 0 ∷ 3 ∷ 0 ∷ 0 ∷ 0 ∷ 28 ∷ 0 ∷ 0 ∷ 0 ∷ 3 ∷ 0 ∷ 0 ∷ 0 ∷ 64 ∷ 0 ∷ 0 ∷ 0
     ∷ 0 ∷ 0 ∷ 0 ∷ 63 ∷ 0 ∷ 0 ∷ 0 ∷ 0 ∷ 0 ∷ 0 ∷ 0 ∷ 0
     ∷ 0 ∷ 0 ∷ 0 ∷ 0 ∷ 0 ∷ 0 ∷ 0 ∷ 0 ∷ 0 ∷ 0 ∷ 0 ∷ 63

@@ -7,9 +7,9 @@ use lib.Dec.{T, ltb, eqb, lit≤}
 use lib.ListN.{length, get_or}
 use borrow.Author.Tests.{ltb-true, ltb-false, eqb-true, eqb-false, not-false}
 use Rattle.mesh_record.specs.declared.Refusal.{Refusal}
-use Rattle.mesh_record.specs.Mesh.{Mesh, vertexCount, finite, below}
-use Rattle.mesh_record.specs.Refusals.{none, malformed, badSize, badNumbering, or_else, differ, opening, lowestBad, contents}
-use Rattle.mesh_record.proofs.LowestBad.{lowestBad-all}
+use Rattle.mesh_record.specs.Mesh.{Mesh, vertex_count, finite, below}
+use Rattle.mesh_record.specs.Refusals.{none, malformed, bad_size, bad_numbering, or_else, differ, opening, lowest_bad, contents}
+use Rattle.mesh_record.proofs.LowestBad.{lowest_bad-all}
 
 -- ---- one check, one part
 
@@ -44,9 +44,9 @@ pub opening-known : (version size numbering : ℕ) → (opening version size num
 unfolding opening
 opening-known version size numbering h =
     let sizes = ltb size 2 || ltb 128 size in
-    let one = check-passed (differ version 1) (malformed 0) (cond sizes badSize (cond (ltb 1 numbering) badNumbering none)) (lit≤ tt) h in
-    let two = check-passed sizes badSize (cond (ltb 1 numbering) badNumbering none) (lit≤ tt) one.1 in
-    let three = check-passed (ltb 1 numbering) badNumbering none (lit≤ tt) two.1 in
+    let one = check-passed (differ version 1) (malformed 0) (cond sizes bad_size (cond (ltb 1 numbering) bad_numbering none)) (lit≤ tt) h in
+    let two = check-passed sizes bad_size (cond (ltb 1 numbering) bad_numbering none) (lit≤ tt) one.1 in
+    let three = check-passed (ltb 1 numbering) bad_numbering none (lit≤ tt) two.1 in
     record {
       first-version = eqb-true version 1 (not-false (eqb version 1) one.0);
       least = ltb-false size 2 (neither_left (ltb size 2) (ltb 128 size) two.0);
@@ -56,18 +56,18 @@ opening-known version size numbering h =
 
 pub record Sound (m : Mesh) : Type 0 where
   pub coordinates-finite : (i : ℕ) → i < length m.coordinates → finite (get_or m.coordinates i 0) ≡ true
-  pub indices-below : (i : ℕ) → i < length m.indices → get_or m.indices i 0 < vertexCount m
+  pub indices-below : (i : ℕ) → i < length m.indices → get_or m.indices i 0 < vertex_count m
 
 pub contents-known : (start : ℕ) (m : Mesh) → (contents start m).cause ≡ 0 → Sound m
 unfolding contents
 contents-known start m h =
-    let coordinate = lowestBad finite m.coordinates in
-    let index = lowestBad (below (vertexCount m)) m.indices in
+    let coordinate = lowest_bad finite m.coordinates in
+    let index = lowest_bad (below (vertex_count m)) m.indices in
     let rest = cond (ltb index (length m.indices)) (malformed (start + 4 * length m.coordinates + 4 * index)) none in
     let one = check-passed (ltb coordinate (length m.coordinates)) (malformed (start + 4 * coordinate)) rest (lit≤ tt) h in
     let two = check-passed (ltb index (length m.indices)) (malformed (start + 4 * length m.coordinates + 4 * index)) none (lit≤ tt) one.1 in
     record {
-      coordinates-finite = lowestBad-all finite m.coordinates (ltb-false coordinate (length m.coordinates) one.0);
-      indices-below = λ i within. ltb-true (get_or m.indices i 0) (vertexCount m)
-          (lowestBad-all (below (vertexCount m)) m.indices (ltb-false index (length m.indices) two.0) i within);
+      coordinates-finite = lowest_bad-all finite m.coordinates (ltb-false coordinate (length m.coordinates) one.0);
+      indices-below = λ i within. ltb-true (get_or m.indices i 0) (vertex_count m)
+          (lowest_bad-all (below (vertex_count m)) m.indices (ltb-false index (length m.indices) two.0) i within);
     }

@@ -11,8 +11,8 @@ pub record Mesh : Type 0 where
   pub coordinates : List ℕ
   pub indices : List ℕ
 
-abbrev pub vertexCount : Mesh → ℕ
-vertexCount m = length m.coordinates / 3
+abbrev pub vertex_count : Mesh → ℕ
+vertex_count m = length m.coordinates / 3
 
 -- the bits without the sign are below those of an infinity, 7F800000
 abbrev pub finite : ℕ → Bool
@@ -24,20 +24,20 @@ below count index = ltb index count
 -- the words of version 1's header, seven of four bytes
 abbrev pub header : Mesh → List ℕ
 header m =
-    1 ∷ m.size ∷ m.numbering ∷ vertexCount m ∷ 28 ∷ length m.indices ∷ (28 + 12 * vertexCount m) ∷ []
+    1 ∷ m.size ∷ m.numbering ∷ vertex_count m ∷ 28 ∷ length m.indices ∷ (28 + 12 * vertex_count m) ∷ []
 
-abbrev pub recordBytes : Mesh → List ℕ
-recordBytes m = bytes_of (header m ++ m.coordinates ++ m.indices)
+abbrev pub record_bytes : Mesh → List ℕ
+record_bytes m = bytes_of (header m ++ m.coordinates ++ m.indices)
 
 -- A mesh that a record can hold, of a size and a numbering that the library takes. Every word is below 2^32.
 pub record Good (m : Mesh) : Type 0 where
   pub least : 2 ≤ m.size
   pub most : m.size ≤ 128
   pub numbering-word : m.numbering ≤ 1
-  pub coordinates-whole : length m.coordinates ≡ 3 * vertexCount m
+  pub coordinates-whole : length m.coordinates ≡ 3 * vertex_count m
   pub coordinates-words : (i : ℕ) → i < length m.coordinates → get_or m.coordinates i 0 < 4294967296
   pub coordinates-finite : (i : ℕ) → i < length m.coordinates → finite (get_or m.coordinates i 0) ≡ true
   pub indices-whole : length m.indices % 3 ≡ 0
-  pub indices-below : (i : ℕ) → i < length m.indices → get_or m.indices i 0 < vertexCount m
+  pub indices-below : (i : ℕ) → i < length m.indices → get_or m.indices i 0 < vertex_count m
   pub indices-word : length m.indices < 4294967296
-  pub offset_word : 28 + 12 * vertexCount m < 4294967296
+  pub offset_word : 28 + 12 * vertex_count m < 4294967296

@@ -15,28 +15,28 @@ use borrow.Author.Tests.{ltb-false, le-ltb, eqb-true, not-false}
 use Rattle.marching_cubes_impl.specs.declared.vertex.Vertex.{Vertex}
 use Rattle.marching_cubes_impl.specs.Vertex.{between}
 use Rattle.positions.specs.Position.{position_of}
-use Rattle.positions.specs.Crossing.{finitePlus, GoodGrid}
+use Rattle.positions.specs.Crossing.{finite_plus, GoodGrid}
 use Rattle.walk.specs.Walk.{Visit}
 use Rattle.walk.specs.Cache.{fresh}
 use Rattle.walk.specs.Numbering.{mesh, joined, crate}
 use Rattle.walk.proofs.Counts.{no_visit}
 use Rattle.walk.proofs.Theorems.{index-threes, counts-bound, joined-indices, crate-indices}
-use Rattle.lent_mesh.specs.Grid.{insideOf, positionAt, floatsOf}
-use Rattle.lent_mesh.proofs.Floats.{floatsOf-length}
-use Rattle.sample_check.specs.Samples.{lowestBad}
-use Rattle.sample_check.proofs.Samples.{anyBad-lowestBad, anyBad-none-good}
+use Rattle.lent_mesh.specs.Grid.{inside_of, position_at, floats_of}
+use Rattle.lent_mesh.proofs.Floats.{floats_of-length}
+use Rattle.sample_check.specs.Samples.{lowest_bad}
+use Rattle.sample_check.proofs.Samples.{any_bad-lowest_bad, any_bad-none-good}
 use Rattle.outcome.specs.declared.Answer.{Answer}
-use Rattle.outcome.specs.Outcome.{Outcome, Surface, surface, surfaceOf, workRoom, over, refused, meshed, filled, outcome}
+use Rattle.outcome.specs.Outcome.{Outcome, Surface, surface, surface_of, work_room, over, refused, meshed, filled, outcome}
 use Rattle.outcome.specs.Outcome.{left as Outcome·left}
 use Rattle.marching_cubes.proofs.ByCause.{accepted, room-enough}
 use Rattle.marching_cubes.proofs.Demands.{demand-3}
-use Rattle.mesh_record.specs.Mesh.{Mesh, vertexCount, recordBytes, Good}
+use Rattle.mesh_record.specs.Mesh.{Mesh, vertex_count, record_bytes, Good}
 use Rattle.mesh_record.specs.Refusals.{none}
-use Rattle.mesh_checks.specs.Reading.{meshIn}
+use Rattle.mesh_checks.specs.Reading.{mesh_in}
 use Rattle.mesh_read.specs.Reading.{reading}
 use Rattle.mesh_read.specs.Reading.{left as Reading·left}
 use Rattle.mesh_record.proofs.Passed.{neither_left, neither_right}
-use Rattle.mesh_write.specs.Writing.{meshOf, refusalOf, Written, writing}
+use Rattle.mesh_write.specs.Writing.{mesh_of, refusal_of, Written, writing}
 use Rattle.mesh_round_trip.proofs.FiniteBits.{number, Floats, bits_small, bits-finite}
 use Rattle.mesh_round_trip.proofs.Records.{record-holds}
 use Rattle.mesh_round_trip.proofs.ReadBack.{good-unrefused, good-written, written_read}
@@ -49,17 +49,17 @@ past cause false o p e h = (refl, h)
 
 module _ (n numbering : ℕ) (samples : List Float) (work : List ℕ) (vertices : List Float) (indices : List ℕ) where
   abbrev s : Surface
-  s = surfaceOf n numbering samples
+  s = surface_of n numbering samples
 
   pub record Done : Type 0 where
     pub least : 2 ≤ n
     pub most : n ≤ 128
     pub known : numbering ≤ 1
     pub whole : length samples ≡ n * n * (n + 1)
-    pub work-room : workRoom n ≤ length work
-    pub none-bad : length samples ≤ lowestBad samples
-    pub vertex-room : 3 * length (surfaceOf n numbering samples).made ≤ length vertices
-    pub index-room : length (surfaceOf n numbering samples).indices ≤ length indices
+    pub work-room : work_room n ≤ length work
+    pub none-bad : length samples ≤ lowest_bad samples
+    pub vertex-room : 3 * length (surface_of n numbering samples).made ≤ length vertices
+    pub index-room : length (surface_of n numbering samples).indices ≤ length indices
 
   outcome-passed : (outcome n numbering samples work vertices indices).answer.cause ≡ 0 → Done
   unfolding outcome filled
@@ -68,8 +68,8 @@ module _ (n numbering : ℕ) (samples : List Float) (work : List ℕ) (vertices 
       let sizes = past 0 (ltb n 2 || ltb 128 n) (refusal 1 0) _ refl h in
       let word = past 1 (ltb 1 numbering) (refusal 2 0) _ refl sizes.1 in
       let count = past 2 (not (eqb (length samples) (n * n * (n + 1)))) (refusal 3 0) _ refl word.1 in
-      let memory = past 3 (ltb (length work) (workRoom n)) (refusal 4 0) _ refl count.1 in
-      let bad = past 4 (ltb (lowestBad samples) (length samples)) (refusal 5 (lowestBad samples)) _ refl memory.1 in
+      let memory = past 3 (ltb (length work) (work_room n)) (refusal 4 0) _ refl count.1 in
+      let bad = past 4 (ltb (lowest_bad samples) (length samples)) (refusal 5 (lowest_bad samples)) _ refl memory.1 in
       let room = past 5 (ltb (length vertices) (3 * length s.made)) (meshed n numbering samples work vertices indices 6 s vertices indices) _ refl bad.1 in
       let index-room = past 6 (ltb (length indices) (length s.indices)) (meshed n numbering samples work vertices indices 7 s vertices indices) _ refl room.1 in
       record {
@@ -77,8 +77,8 @@ module _ (n numbering : ℕ) (samples : List Float) (work : List ℕ) (vertices 
         most = ltb-false 128 n (neither_right (ltb n 2) (ltb 128 n) sizes.0);
         known = ltb-false 1 numbering word.0;
         whole = eqb-true (length samples) (n * n * (n + 1)) (not-false _ count.0);
-        work-room = ltb-false (length work) (workRoom n) memory.0;
-        none-bad = ltb-false (lowestBad samples) (length samples) bad.0;
+        work-room = ltb-false (length work) (work_room n) memory.0;
+        none-bad = ltb-false (lowest_bad samples) (length samples) bad.0;
         vertex-room = ltb-false (length vertices) (3 * length s.made) room.0;
         index-room = ltb-false (length indices) (length s.indices) index-room.0;
       }
@@ -87,23 +87,23 @@ module _ (n numbering : ℕ) (samples : List Float) (work : List ℕ) (vertices 
 
 module _ (P : Float → Type 0) (d : Vertex) where
   floats-each : (ps : List Vertex) → ((i : ℕ) → i < length ps → P (get_or ps i d).x × P (get_or ps i d).y × P (get_or ps i d).z)
-      → (k : ℕ) → k < length (floatsOf ps) → P (get_or (floatsOf ps) k nan)
-  unfolding floatsOf
+      → (k : ℕ) → k < length (floats_of ps) → P (get_or (floats_of ps) k nan)
+  unfolding floats_of
   floats-each [] h k within = absurd (omega arith)
   floats-each (p ∷ ps) h zero within = (h 0 (omega arith)).0
   floats-each (p ∷ ps) h (suc zero) within = (h 0 (omega arith)).1
   floats-each (p ∷ ps) h (suc (suc zero)) within = (h 0 (omega arith)).2
   floats-each (p ∷ ps) h (suc (suc (suc k))) within = floats-each ps (λ i w. h (suc i) (omega arith)) k (omega arith)
 
-plus-number : (x : Float) → T (finitePlus x) → number x ≡ true
+plus-number : (x : Float) → T (finite_plus x) → number x ≡ true
 plus-number nan h = absurd h
 plus-number (inf s) h = absurd h
 plus-number (fin true m e) h = absurd h
 plus-number (fin false m e) h = refl
 
 module _ (n : ℕ) (samples : List Float) (v : Visit) where
-  position-fits : T (fits binary32 (positionAt n samples v).x) × T (fits binary32 (positionAt n samples v).y) × T (fits binary32 (positionAt n samples v).z)
-  unfolding positionAt position_of between
+  position-fits : T (fits binary32 (position_at n samples v).x) × T (fits binary32 (position_at n samples v).y) × T (fits binary32 (position_at n samples v).z)
+  unfolding position_at position_of between
   position-fits = (add-fits binary32 _ _, add-fits binary32 _ _, add-fits binary32 _ _)
 
 -- what the indices of a surface of size n are known to be
@@ -113,17 +113,17 @@ record Listed (n : ℕ) (s : Surface) : Type 0 where
   indices-le : length s.indices ≤ 15 * (n * (n - 1) * (n - 1))
   indices-below : (i : ℕ) → i < length s.indices → get_or s.indices i 0 < length s.made
 
-surface-listed : (n numbering : ℕ) (samples : List Float) → Listed n (surfaceOf n numbering samples)
-unfolding surfaceOf
+surface-listed : (n numbering : ℕ) (samples : List Float) → Listed n (surface_of n numbering samples)
+unfolding surface_of
 surface-listed n numbering samples = either (eqb numbering 0)
   where
-    either : (b : Bool) → Listed n (cond b (surface (mesh (crate n) fresh (insideOf n samples) n n)) (surface (mesh joined [] (insideOf n samples) n n)))
+    either : (b : Bool) → Listed n (cond b (surface (mesh (crate n) fresh (inside_of n samples) n n)) (surface (mesh joined [] (inside_of n samples) n n)))
     either true =
-        let g = insideOf n samples in
+        let g = inside_of n samples in
         let bound = counts-bound (crate n) fresh g n n in
         record { threes = index-threes (crate n) fresh g n n; vertices-le = bound.0; indices-le = bound.1; indices-below = crate-indices g n n }
     either false =
-        let g = insideOf n samples in
+        let g = inside_of n samples in
         let bound = counts-bound joined [] g n n in
         record { threes = index-threes joined [] g n n; vertices-le = bound.0; indices-le = bound.1; indices-below = joined-indices g n n }
 
@@ -136,44 +136,44 @@ indices-few n i most h =
 module _ (n numbering : ℕ) (samples : List Float) (held : Floats samples) (work : List ℕ) (vertices : List Float) (indices : List ℕ)
     (done : Done n numbering samples work vertices indices) where
   abbrev made : List Visit
-  made = (surfaceOf n numbering samples).made
+  made = (surface_of n numbering samples).made
 
   abbrev floats : List Float
-  floats = floatsOf (map (positionAt n samples) (surfaceOf n numbering samples).made)
+  floats = floats_of (map (position_at n samples) (surface_of n numbering samples).made)
 
   abbrev list : List ℕ
-  list = (surfaceOf n numbering samples).indices
+  list = (surface_of n numbering samples).indices
 
   grid : GoodGrid n (n + 1) samples
   grid =
-      let none = anyBad-lowestBad samples ∙ le-ltb (lowestBad samples) (length samples) done.none-bad in
+      let none = any_bad-lowest_bad samples ∙ le-ltb (lowest_bad samples) (length samples) done.none-bad in
       record {
         least = done.least;
         most = omega (arith, done.most);
         layers-most = omega arith;
         whole = done.whole;
         all_fit = held;
-        all-good = λ i within. subst T (sym (anyBad-none-good samples none i within)) tt;
+        all-good = λ i within. subst T (sym (any_bad-none-good samples none i within)) tt;
       }
 
   floats-length : length floats ≡ 3 * length made
-  floats-length = floatsOf-length (map (positionAt n samples) made) ∙ ap (λ (k : ℕ). 3 * k) (length-map made (positionAt n samples))
+  floats-length = floats_of-length (map (position_at n samples) made) ∙ ap (λ (k : ℕ). 3 * k) (length-map made (position_at n samples))
 
-  abbrev noVertex : Vertex
-  noVertex = positionAt n samples no_visit
+  abbrev no_vertex : Vertex
+  no_vertex = position_at n samples no_visit
 
   floats-fit : Floats floats
   floats-fit =
-      floats-each (λ x. T (fits binary32 x)) noVertex (map (positionAt n samples) made)
+      floats-each (λ x. T (fits binary32 x)) no_vertex (map (position_at n samples) made)
       (λ i within. subst (λ (p : Vertex). T (fits binary32 p.x) × T (fits binary32 p.y) × T (fits binary32 p.z))
-      (sym (get_or-map (positionAt n samples) made i no_visit)) (position-fits n samples (get_or made i no_visit)))
+      (sym (get_or-map (position_at n samples) made i no_visit)) (position-fits n samples (get_or made i no_visit)))
 
   floats-numbers : (i : ℕ) → i < length floats → number (get_or floats i nan) ≡ true
   floats-numbers =
-      floats-each (λ x. number x ≡ true) noVertex (map (positionAt n samples) made)
+      floats-each (λ x. number x ≡ true) no_vertex (map (position_at n samples) made)
       (λ i within.
-      let near = demand-3 n samples grid numbering i (omega (arith, within, length-map made (positionAt n samples))) in
-      let p = get_or (map (positionAt n samples) made) i noVertex in
+      let near = demand-3 n samples grid numbering i (omega (arith, within, length-map made (position_at n samples))) in
+      let p = get_or (map (position_at n samples) made) i no_vertex in
       (plus-number p.x near.near-x.number, plus-number p.y near.near-y.number, plus-number p.z near.near-z.number))
 
   count : length (map (to_bits binary32) floats) ≡ 3 * length made
@@ -182,10 +182,10 @@ module _ (n numbering : ℕ) (samples : List Float) (held : Floats samples) (wor
   third : (k l : ℕ) → k ≡ 3 * l → k / 3 ≡ l
   third k l h = omega arith
 
-  vertex-count : vertexCount (meshOf n numbering floats list) ≡ length made
+  vertex-count : vertex_count (mesh_of n numbering floats list) ≡ length made
   vertex-count = third (length (map (to_bits binary32) floats)) (length made) count
 
-  surface-good : Good (meshOf n numbering floats list)
+  surface-good : Good (mesh_of n numbering floats list)
   surface-good =
       let listed = surface-listed n numbering samples in
       let few : length list ≤ 30968160 = indices-few n (length list) done.most listed.indices-le in
@@ -221,45 +221,45 @@ module _ (n numbering : ℕ) (samples : List Float) (held : Floats samples) (wor
   list_left = take answer.indices indices-left
 
   all_left : Outcome·left answer work-left vertices-left indices-left
-      ≡ meshed n numbering samples work vertices indices 0 (surfaceOf n numbering samples)
-      (over (floatsOf (map (positionAt n samples) (surfaceOf n numbering samples).made)) vertices) (over (surfaceOf n numbering samples).indices indices)
+      ≡ meshed n numbering samples work vertices indices 0 (surface_of n numbering samples)
+      (over (floats_of (map (position_at n samples) (surface_of n numbering samples).made)) vertices) (over (surface_of n numbering samples).indices indices)
   all_left =
       let d = all_done in
       promise ∙ accepted n numbering samples work vertices indices d.least d.most d.known d.whole d.work-room d.none-bad
-      ∙ room-enough n numbering samples work vertices indices (surfaceOf n numbering samples) d.vertex-room d.index-room
+      ∙ room-enough n numbering samples work vertices indices (surface_of n numbering samples) d.vertex-room d.index-room
 
-  front-is : floatsOf (map (positionAt n samples) (surfaceOf n numbering samples).made) ≡ floats-left
+  front-is : floats_of (map (position_at n samples) (surface_of n numbering samples).made) ≡ floats-left
   front-is =
-      let floats : List Float = floatsOf (map (positionAt n samples) (surfaceOf n numbering samples).made) in
+      let floats : List Float = floats_of (map (position_at n samples) (surface_of n numbering samples).made) in
       sym (ap (λ (o : Outcome). take (3 * o.answer.vertices) o.vertices) all_left
       ∙ take_at floats (drop (length floats) vertices) _ (floats-length n numbering samples held work vertices indices all_done))
 
-  list-is : (surfaceOf n numbering samples).indices ≡ list_left
+  list-is : (surface_of n numbering samples).indices ≡ list_left
   list-is =
-      let list = (surfaceOf n numbering samples).indices in
+      let list = (surface_of n numbering samples).indices in
       sym (ap (λ (o : Outcome). take o.answer.indices o.indices) all_left ∙ take-append_seam list (drop (length list) indices))
 
   abbrev extracted : Mesh
-  extracted = meshOf n numbering floats-left list_left
+  extracted = mesh_of n numbering floats-left list_left
 
-  extracted-is : meshOf n numbering (floatsOf (map (positionAt n samples) (surfaceOf n numbering samples).made)) (surfaceOf n numbering samples).indices ≡ extracted
-  extracted-is = ap₂ (λ (f : List Float) (l : List ℕ). meshOf n numbering f l) front-is list-is
+  extracted-is : mesh_of n numbering (floats_of (map (position_at n samples) (surface_of n numbering samples).made)) (surface_of n numbering samples).indices ≡ extracted
+  extracted-is = ap₂ (λ (f : List Float) (l : List ℕ). mesh_of n numbering f l) front-is list-is
 
-  pub extract-good : Good (meshOf n numbering (take (3 * answer.vertices) vertices-left) (take answer.indices indices-left))
+  pub extract-good : Good (mesh_of n numbering (take (3 * answer.vertices) vertices-left) (take answer.indices indices-left))
   extract-good = subst Good extracted-is (surface-good n numbering samples held work vertices indices all_done)
 
-  pub extract-written : refusalOf 1 (meshOf n numbering (take (3 * answer.vertices) vertices-left) (take answer.indices indices-left)) ≡ none
+  pub extract-written : refusal_of 1 (mesh_of n numbering (take (3 * answer.vertices) vertices-left) (take answer.indices indices-left)) ≡ none
   extract-written = good-unrefused extracted extract-good
 
-  pub extract-read-back : meshIn (recordBytes (meshOf n numbering (take (3 * answer.vertices) vertices-left) (take answer.indices indices-left)))
-      ≡ meshOf n numbering (take (3 * answer.vertices) vertices-left) (take answer.indices indices-left)
+  pub extract-read-back : mesh_in (record_bytes (mesh_of n numbering (take (3 * answer.vertices) vertices-left) (take answer.indices indices-left)))
+      ≡ mesh_of n numbering (take (3 * answer.vertices) vertices-left) (take answer.indices indices-left)
   extract-read-back = record-holds extracted extract-good
 
   -- The two calls together: with room for the record, and then for the mesh, what was extracted is written, and read again as it was.
   pub extract-round-trip : (out : List ℕ) (floats : List Float) (words : List ℕ)
-      → length (recordBytes (meshOf n numbering (take (3 * answer.vertices) vertices-left) (take answer.indices indices-left))) ≤ length out
+      → length (record_bytes (mesh_of n numbering (take (3 * answer.vertices) vertices-left) (take answer.indices indices-left))) ≤ length out
       → length (take (3 * answer.vertices) vertices-left) ≤ length floats → length (take answer.indices indices-left) ≤ length words
-      → let w = writing 1 (meshOf n numbering (take (3 * answer.vertices) vertices-left) (take answer.indices indices-left)) out in
+      → let w = writing 1 (mesh_of n numbering (take (3 * answer.vertices) vertices-left) (take answer.indices indices-left)) out in
       reading (take w.answer.bytes w.out) floats words
       ≡ Reading·left (record { cause = 0; size = n; numbering = numbering; place = 0; vertices = length (take (3 * answer.vertices) vertices-left) / 3; indices = length (take answer.indices indices-left) })
       (over (take (3 * answer.vertices) vertices-left) floats) (over (take answer.indices indices-left) words)

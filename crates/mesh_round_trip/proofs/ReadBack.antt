@@ -13,9 +13,9 @@ use borrow.Author.Tests.{ltb-false, eqb-true, eqb-false, le-ltb}
 use Rattle.little_endian.specs.Words.{over}
 use Rattle.little_endian.proofs.Bytes.{Below}
 use Rattle.mesh_record.specs.declared.Refusal.{Refusal}
-use Rattle.mesh_record.specs.Mesh.{Mesh, vertexCount, recordBytes, Good}
+use Rattle.mesh_record.specs.Mesh.{Mesh, vertex_count, record_bytes, Good}
 use Rattle.mesh_record.specs.Refusals.{none, opening, contents}
-use Rattle.mesh_checks.specs.Reading.{meshIn, refusalIn}
+use Rattle.mesh_checks.specs.Reading.{mesh_in, refusal_in}
 use Rattle.mesh_read.specs.Reading.{Read, refused, short, done, copied, reading}
 use Rattle.mesh_read.specs.Reading.{left as Reading·left}
 use Rattle.mesh_record.proofs.Checks.{opening-passed}
@@ -23,20 +23,20 @@ use Rattle.mesh_record.proofs.Passed.{part-passed, opening-known, contents-known
 use Rattle.mesh_read.proofs.Copies.{copied-done, reading-passed}
 use Rattle.mesh_round_trip.proofs.Records.{contents-none, record-holds, record-accepted, accepted-good, accepted-again}
 use Rattle.mesh_round_trip.proofs.FiniteBits.{Floats, floats-of-bits, bits-of-floats, bits_small}
-use Rattle.mesh_write.specs.Writing.{meshOf, fields_of, refusalOf, Written, left, answered, put, writing}
-use Rattle.mesh_write.proofs.Fields.{fieldsOf-passed, fieldsOf-known}
+use Rattle.mesh_write.specs.Writing.{mesh_of, fields_of, refusal_of, Written, left, answered, put, writing}
+use Rattle.mesh_write.proofs.Fields.{fields_of-passed, fields_of-known}
 use Rattle.mesh_write.proofs.Meshes.{writing-passed}
 
 -- ---- which meshes are written
 
 -- A mesh of words that the writer does not refuse is good, and the version is 1;
-pub unrefused-good : (version : ℕ) (m : Mesh) → Below 4294967296 m.coordinates → (refusalOf version m).cause ≡ 0 → (version ≡ 1) × Good m
-unfolding refusalOf
+pub unrefused-good : (version : ℕ) (m : Mesh) → Below 4294967296 m.coordinates → (refusal_of version m).cause ≡ 0 → (version ≡ 1) × Good m
+unfolding refusal_of
 unrefused-good version m small h =
     let parts = part-passed (opening version m.size m.numbering) _ h in
     let rest = part-passed (fields_of (length m.coordinates) (length m.indices)) (contents 28 m) parts.1 in
     let opened = opening-known version m.size m.numbering parts.0 in
-    let fields = fieldsOf-known (length m.coordinates) (length m.indices) rest.0 in
+    let fields = fields_of-known (length m.coordinates) (length m.indices) rest.0 in
     let sound = contents-known 28 m rest.1 in (
       opened.first-version,
       record {
@@ -54,51 +54,51 @@ unrefused-good version m small h =
     )
 
 -- and a good mesh is not refused.
-pub good-unrefused : (m : Mesh) → Good m → refusalOf 1 m ≡ none
-unfolding refusalOf
+pub good-unrefused : (m : Mesh) → Good m → refusal_of 1 m ≡ none
+unfolding refusal_of
 good-unrefused m good =
     let first = opening-passed 1 m.size m.numbering refl good.least good.most good.numbering-word in
     let offset : 28 + 12 * (length m.coordinates / 3) ≤ 4294967295 = omega (arith, good.offset_word) in
-    let second = fieldsOf-passed (length m.coordinates) (length m.indices) (omega (arith, good.coordinates-whole)) (omega (arith, offset))
+    let second = fields_of-passed (length m.coordinates) (length m.indices) (omega (arith, good.coordinates-whole)) (omega (arith, offset))
     good.indices-whole (omega (arith, good.indices-word)) offset in
     rw (← first, ← second, ← contents-none m good)
 
 -- With the room for its record it is written.
-pub good-written : (m : Mesh) → Good m → (out : List ℕ) → length (recordBytes m) ≤ length out
-    → writing 1 m out ≡ left (answered 0 0 (length (recordBytes m))) (over (recordBytes m) out)
+pub good-written : (m : Mesh) → Good m → (out : List ℕ) → length (record_bytes m) ≤ length out
+    → writing 1 m out ≡ left (answered 0 0 (length (record_bytes m))) (over (record_bytes m) out)
 unfolding put
 good-written m good out room =
-    sym (writing-passed 1 m out none (sym (good-unrefused m good)) (put m out) refl refl) ∙ rw (le-ltb (length out) (length (recordBytes m)) room)
+    sym (writing-passed 1 m out none (sym (good-unrefused m good)) (put m out) refl refl) ∙ rw (le-ltb (length out) (length (record_bytes m)) room)
 
 -- ---- what is left after cause 0
 
 -- what holds where the writer is done
 pub record WrittenRecord (version : ℕ) (m : Mesh) (out : List ℕ) : Type 0 where
-  pub unrefused : (refusalOf version m).cause ≡ 0
-  pub room : length (recordBytes m) ≤ length out
-  pub written : writing version m out ≡ left (answered 0 0 (length (recordBytes m))) (over (recordBytes m) out)
+  pub unrefused : (refusal_of version m).cause ≡ 0
+  pub room : length (record_bytes m) ≤ length out
+  pub written : writing version m out ≡ left (answered 0 0 (length (record_bytes m))) (over (record_bytes m) out)
 
 module _ (version : ℕ) (m : Mesh) (out : List ℕ) where
-  put-by : (b : Bool) → ltb (length out) (length (recordBytes m)) ≡ b
-      → (cond b (left (answered 10 0 (length (recordBytes m))) out) (left (answered 0 0 (length (recordBytes m))) (over (recordBytes m) out))).answer.cause ≡ 0
+  put-by : (b : Bool) → ltb (length out) (length (record_bytes m)) ≡ b
+      → (cond b (left (answered 10 0 (length (record_bytes m))) out) (left (answered 0 0 (length (record_bytes m))) (over (record_bytes m) out))).answer.cause ≡ 0
       → (b ≡ false)
   put-by true e h = absurd (omega arith)
   put-by false e h = refl
 
-  refused-by : (b : Bool) → eqb (refusalOf version m).cause 0 ≡ b
-      → (cond b (put m out) (left (answered (refusalOf version m).cause (refusalOf version m).place 0) out)).answer.cause ≡ 0 → (b ≡ true)
+  refused-by : (b : Bool) → eqb (refusal_of version m).cause 0 ≡ b
+      → (cond b (put m out) (left (answered (refusal_of version m).cause (refusal_of version m).place 0) out)).answer.cause ≡ 0 → (b ≡ true)
   refused-by true e h = refl
-  refused-by false e h = absurd (eqb-false (refusalOf version m).cause 0 e h)
+  refused-by false e h = absurd (eqb-false (refusal_of version m).cause 0 e h)
 
   pub writing-done : (writing version m out).answer.cause ≡ 0 → WrittenRecord version m out
   unfolding writing put
   writing-done h =
-      let passed = refused-by (eqb (refusalOf version m).cause 0) refl h in
-      let fitted = put-by (ltb (length out) (length (recordBytes m))) refl
-      (subst (λ (b : Bool). (cond b (put m out) (left (answered (refusalOf version m).cause (refusalOf version m).place 0) out)).answer.cause ≡ 0) passed h) in
+      let passed = refused-by (eqb (refusal_of version m).cause 0) refl h in
+      let fitted = put-by (ltb (length out) (length (record_bytes m))) refl
+      (subst (λ (b : Bool). (cond b (put m out) (left (answered (refusal_of version m).cause (refusal_of version m).place 0) out)).answer.cause ≡ 0) passed h) in
       record {
-        unrefused = eqb-true (refusalOf version m).cause 0 passed;
-        room = ltb-false (length out) (length (recordBytes m)) fitted;
+        unrefused = eqb-true (refusal_of version m).cause 0 passed;
+        room = ltb-false (length out) (length (record_bytes m)) fitted;
         written = rw (passed, fitted);
       }
 
@@ -106,9 +106,9 @@ module _ (version : ℕ) (m : Mesh) (out : List ℕ) where
 
 -- Reading the bytes that were written, into buffers with the room, gives the mesh back: size, numbering, coordinates and indices.
 module _ (version size numbering : ℕ) (coordinates : List Float) (indices out : List ℕ) (held : Floats coordinates)
-    (cause : (writing version (meshOf size numbering coordinates indices) out).answer.cause ≡ 0) where
+    (cause : (writing version (mesh_of size numbering coordinates indices) out).answer.cause ≡ 0) where
   abbrev m : Mesh
-  m = meshOf size numbering coordinates indices
+  m = mesh_of size numbering coordinates indices
 
   abbrev w : Written
   w = writing version m out
@@ -116,20 +116,20 @@ module _ (version size numbering : ℕ) (coordinates : List Float) (indices out 
   all : WrittenRecord version m out
   all = writing-done version m out cause
 
-  pub written-good : Good (meshOf size numbering coordinates indices)
+  pub written-good : Good (mesh_of size numbering coordinates indices)
   written-good = (unrefused-good version m (bits_small coordinates held) all.unrefused).1
 
-  pub written-front : take w.answer.bytes w.out ≡ recordBytes (meshOf size numbering coordinates indices)
-  written-front = rw all.written (take-append_seam (recordBytes m) (drop (length (recordBytes m)) out))
+  pub written-front : take w.answer.bytes w.out ≡ record_bytes (mesh_of size numbering coordinates indices)
+  written-front = rw all.written (take-append_seam (record_bytes m) (drop (length (record_bytes m)) out))
 
   pub written_read : (floats : List Float) (words : List ℕ) → length coordinates ≤ length floats → length indices ≤ length words
-      → reading (take (writing version (meshOf size numbering coordinates indices) out).answer.bytes (writing version (meshOf size numbering coordinates indices) out).out) floats words
+      → reading (take (writing version (mesh_of size numbering coordinates indices) out).answer.bytes (writing version (mesh_of size numbering coordinates indices) out).out) floats words
       ≡ Reading·left (record { cause = 0; size = size; numbering = numbering; place = 0; vertices = length coordinates / 3; indices = length indices })
       (over coordinates floats) (over indices words)
   written_read floats words room index-room =
       let few : length m.coordinates ≤ length floats = omega (arith, room, length-map coordinates (to_bits binary32)) in
       ap (λ (l : List ℕ). reading l floats words) written-front
-      ∙ sym (reading-passed (recordBytes m) floats words (ap (λ (r : Refusal). r.cause) (record-accepted m written-good)))
+      ∙ sym (reading-passed (record_bytes m) floats words (ap (λ (r : Refusal). r.cause) (record-accepted m written-good)))
       ∙ ap (λ (k : Mesh). copied k floats words) (record-holds m written-good)
       ∙ sym (copied-done m floats words few index-room)
       ∙ ap₂ (λ (k : ℕ) (l : List Float). Reading·left (record { cause = 0; size = size; numbering = numbering; place = 0; vertices = k / 3; indices = length indices })
@@ -139,66 +139,66 @@ module _ (version size numbering : ℕ) (coordinates : List Float) (indices out 
 
 -- what holds where the reader is done
 pub record ReadRecord (bytes : List ℕ) (floats : List Float) (words : List ℕ) : Type 0 where
-  pub accepted : (refusalIn bytes).cause ≡ 0
+  pub accepted : (refusal_in bytes).cause ≡ 0
   pub read : reading bytes floats words
-      ≡ Reading·left (done (meshIn bytes)) (over (map (of_bits binary32) (meshIn bytes).coordinates) floats) (over (meshIn bytes).indices words)
+      ≡ Reading·left (done (mesh_in bytes)) (over (map (of_bits binary32) (mesh_in bytes).coordinates) floats) (over (mesh_in bytes).indices words)
 
 module _ (bytes : List ℕ) (floats : List Float) (words : List ℕ) where
   abbrev read-mesh : Mesh
-  read-mesh = meshIn bytes
+  read-mesh = mesh_in bytes
 
   abbrev done-read : Read
-  done-read = Reading·left (done (meshIn bytes)) (over (map (of_bits binary32) (meshIn bytes).coordinates) floats) (over (meshIn bytes).indices words)
+  done-read = Reading·left (done (mesh_in bytes)) (over (map (of_bits binary32) (mesh_in bytes).coordinates) floats) (over (mesh_in bytes).indices words)
 
   abbrev few : Bool
-  few = ltb (length floats) (length (meshIn bytes).coordinates) || ltb (length words) (length (meshIn bytes).indices)
+  few = ltb (length floats) (length (mesh_in bytes).coordinates) || ltb (length words) (length (mesh_in bytes).indices)
 
-  copied-by : (b : Bool) → (cond b (Reading·left (short (meshIn bytes)) floats words) done-read).answer.cause ≡ 0 → (b ≡ false)
+  copied-by : (b : Bool) → (cond b (Reading·left (short (mesh_in bytes)) floats words) done-read).answer.cause ≡ 0 → (b ≡ false)
   copied-by true h = absurd (omega arith)
   copied-by false h = refl
 
-  accepted-by : (b : Bool) → eqb (refusalIn bytes).cause 0 ≡ b
-      → (cond b (copied (meshIn bytes) floats words) (Reading·left (refused (refusalIn bytes)) floats words)).answer.cause ≡ 0 → (b ≡ true)
+  accepted-by : (b : Bool) → eqb (refusal_in bytes).cause 0 ≡ b
+      → (cond b (copied (mesh_in bytes) floats words) (Reading·left (refused (refusal_in bytes)) floats words)).answer.cause ≡ 0 → (b ≡ true)
   accepted-by true e h = refl
-  accepted-by false e h = absurd (eqb-false (refusalIn bytes).cause 0 e h)
+  accepted-by false e h = absurd (eqb-false (refusal_in bytes).cause 0 e h)
 
   pub reading-done : (reading bytes floats words).answer.cause ≡ 0 → ReadRecord bytes floats words
   unfolding reading copied
   reading-done h =
-      let passed = accepted-by (eqb (refusalIn bytes).cause 0) refl h in
+      let passed = accepted-by (eqb (refusal_in bytes).cause 0) refl h in
       let roomy = copied-by few
-      (subst (λ (b : Bool). (cond b (copied (meshIn bytes) floats words) (Reading·left (refused (refusalIn bytes)) floats words)).answer.cause ≡ 0) passed h) in
-      record { accepted = eqb-true (refusalIn bytes).cause 0 passed; read = rw (passed, roomy) }
+      (subst (λ (b : Bool). (cond b (copied (mesh_in bytes) floats words) (Reading·left (refused (refusal_in bytes)) floats words)).answer.cause ≡ 0) passed h) in
+      record { accepted = eqb-true (refusal_in bytes).cause 0 passed; read = rw (passed, roomy) }
 
 -- An accepted record written again, from what the reader left, gives the same bytes.
 module _ (bytes : List ℕ) (small : Below 256 bytes) (floats : List Float) (words out : List ℕ) (cause : (reading bytes floats words).answer.cause ≡ 0) where
   abbrev held-mesh : Mesh
-  held-mesh = meshIn bytes
+  held-mesh = mesh_in bytes
 
   is_read : ReadRecord bytes floats words
   is_read = reading-done bytes floats words cause
 
-  is-good : Good (meshIn bytes)
+  is-good : Good (mesh_in bytes)
   is-good = accepted-good bytes small is_read.accepted
 
-  same-mesh : meshOf held-mesh.size held-mesh.numbering (map (of_bits binary32) held-mesh.coordinates) held-mesh.indices ≡ held-mesh
+  same-mesh : mesh_of held-mesh.size held-mesh.numbering (map (of_bits binary32) held-mesh.coordinates) held-mesh.indices ≡ held-mesh
   same-mesh =
       ap (λ (l : List ℕ). record { size = held-mesh.size; numbering = held-mesh.numbering; coordinates = l; indices = held-mesh.indices })
       (bits-of-floats held-mesh.coordinates is-good.coordinates-words is-good.coordinates-finite)
 
   abbrev again : Read → Mesh
-  again r = meshOf r.answer.size r.answer.numbering (take (3 * r.answer.vertices) r.coordinates) (take r.answer.indices r.indices)
+  again r = mesh_of r.answer.size r.answer.numbering (take (3 * r.answer.vertices) r.coordinates) (take r.answer.indices r.indices)
 
   read_again : again (reading bytes floats words) ≡ held-mesh
   read_again =
-      let front : take (3 * vertexCount held-mesh) (over (map (of_bits binary32) held-mesh.coordinates) floats) ≡ map (of_bits binary32) held-mesh.coordinates =
-      take_at (map (of_bits binary32) held-mesh.coordinates) _ (3 * vertexCount held-mesh) (length-map held-mesh.coordinates (of_bits binary32) ∙ is-good.coordinates-whole) in
+      let front : take (3 * vertex_count held-mesh) (over (map (of_bits binary32) held-mesh.coordinates) floats) ≡ map (of_bits binary32) held-mesh.coordinates =
+      take_at (map (of_bits binary32) held-mesh.coordinates) _ (3 * vertex_count held-mesh) (length-map held-mesh.coordinates (of_bits binary32) ∙ is-good.coordinates-whole) in
       ap again is_read.read
-      ∙ ap₂ (λ (f : List Float) (l : List ℕ). meshOf held-mesh.size held-mesh.numbering f l) front (take-append_seam held-mesh.indices (drop (length held-mesh.indices) words))
+      ∙ ap₂ (λ (f : List Float) (l : List ℕ). mesh_of held-mesh.size held-mesh.numbering f l) front (take-append_seam held-mesh.indices (drop (length held-mesh.indices) words))
       ∙ same-mesh
 
   pub read-written : length bytes ≤ length out
-      → writing 1 (meshOf (reading bytes floats words).answer.size (reading bytes floats words).answer.numbering
+      → writing 1 (mesh_of (reading bytes floats words).answer.size (reading bytes floats words).answer.numbering
       (take (3 * (reading bytes floats words).answer.vertices) (reading bytes floats words).coordinates) (take (reading bytes floats words).answer.indices (reading bytes floats words).indices)) out
       ≡ left (answered 0 0 (length bytes)) (over bytes out)
   read-written room =
@@ -213,10 +213,10 @@ module _ (bytes : List ℕ) (small : Below 256 bytes) (floats : List Float) (wor
 pub read-unchanged : (bytes : List ℕ) (floats : List Float) (words : List ℕ) → ((reading bytes floats words).answer.cause ≡ 0 → ⊥)
     → ((reading bytes floats words).coordinates ≡ floats) × ((reading bytes floats words).indices ≡ words)
 unfolding reading copied
-read-unchanged bytes floats words = by (eqb (refusalIn bytes).cause 0) (few bytes floats words)
+read-unchanged bytes floats words = by (eqb (refusal_in bytes).cause 0) (few bytes floats words)
   where
     by : (passed short-of-room : Bool)
-        → let r = cond passed (cond short-of-room (Reading·left (short (meshIn bytes)) floats words) (done-read bytes floats words)) (Reading·left (refused (refusalIn bytes)) floats words) in
+        → let r = cond passed (cond short-of-room (Reading·left (short (mesh_in bytes)) floats words) (done-read bytes floats words)) (Reading·left (refused (refusal_in bytes)) floats words) in
         (r.answer.cause ≡ 0 → ⊥) → (r.coordinates ≡ floats) × (r.indices ≡ words)
     by true true h = (refl, refl)
     by true false h = absurd (h refl)
@@ -225,11 +225,11 @@ read-unchanged bytes floats words = by (eqb (refusalIn bytes).cause 0) (few byte
 -- and the writer the output.
 pub write-unchanged : (version : ℕ) (m : Mesh) (out : List ℕ) → ((writing version m out).answer.cause ≡ 0 → ⊥) → (writing version m out).out ≡ out
 unfolding writing put
-write-unchanged version m out = by (eqb (refusalOf version m).cause 0) (ltb (length out) (length (recordBytes m)))
+write-unchanged version m out = by (eqb (refusal_of version m).cause 0) (ltb (length out) (length (record_bytes m)))
   where
     by : (passed short-of-room : Bool)
-        → let w = cond passed (cond short-of-room (left (answered 10 0 (length (recordBytes m))) out) (left (answered 0 0 (length (recordBytes m))) (over (recordBytes m) out)))
-        (left (answered (refusalOf version m).cause (refusalOf version m).place 0) out) in
+        → let w = cond passed (cond short-of-room (left (answered 10 0 (length (record_bytes m))) out) (left (answered 0 0 (length (record_bytes m))) (over (record_bytes m) out)))
+        (left (answered (refusal_of version m).cause (refusal_of version m).place 0) out) in
         (w.answer.cause ≡ 0 → ⊥) → w.out ≡ out
     by true true h = refl
     by true false h = absurd (h refl)

@@ -7,19 +7,19 @@ use native.Mathlib.Omega.{arith}
 use lib.ListN.{length, get_or, take, drop, length-append, length-drop, take-append-drop}
 use lib.Seq.{take-length, take-append_seam, take_all, drop_at, drop-drop}
 use borrow.Author.Tests.{lt-ltb}
-use Rattle.little_endian.specs.Words.{word_at, words, wordsFrom, bytes_of}
+use Rattle.little_endian.specs.Words.{word_at, words, words_from, bytes_of}
 use Rattle.little_endian.proofs.Words.{words-length, words-at, words-drop}
-use Rattle.little_endian.proofs.Bytes.{Below, below-cons, below-append, below-take, below-drop, words-bytesOf, bytesOf-words, words-below, wordAt-lt}
+use Rattle.little_endian.proofs.Bytes.{Below, below-cons, below-append, below-take, below-drop, words-bytes_of, bytes_of-words, words-below, word_at-lt}
 use Rattle.mesh_record.specs.declared.Refusal.{Refusal}
-use Rattle.mesh_record.specs.Mesh.{Mesh, vertexCount, finite, below, header, recordBytes, Good}
-use Rattle.mesh_record.specs.Refusals.{none, lowestBad, contents}
-use Rattle.mesh_checks.specs.Reading.{meshIn, refusalIn}
-use Rattle.mesh_record.proofs.LowestBad.{all-lowestBad}
+use Rattle.mesh_record.specs.Mesh.{Mesh, vertex_count, finite, below, header, record_bytes, Good}
+use Rattle.mesh_record.specs.Refusals.{none, lowest_bad, contents}
+use Rattle.mesh_checks.specs.Reading.{mesh_in, refusal_in}
+use Rattle.mesh_record.proofs.LowestBad.{all-lowest_bad}
 use Rattle.mesh_record.proofs.Checks.{opening-passed}
-use Rattle.mesh_checks.proofs.Checks.{fieldsIn-passed}
+use Rattle.mesh_checks.proofs.Checks.{fields_in-passed}
 use Rattle.mesh_record.proofs.Contents.{contents-passed}
-use Rattle.mesh_checks.proofs.Contents.{coordinates-length, indices-length, meshIn-vertices}
-use Rattle.mesh_checks.proofs.Passed.{Whole, refusalIn-known, refusalIn-contents}
+use Rattle.mesh_checks.proofs.Contents.{coordinates-length, indices-length, mesh_in-vertices}
+use Rattle.mesh_checks.proofs.Passed.{Whole, refusal_in-known, refusal_in-contents}
 use Rattle.mesh_write.proofs.Puts.{record-length}
 
 -- ---- seven words
@@ -36,7 +36,7 @@ module _ (bound a b c d e f g : ℕ) where
 
 module _ (m : Mesh) (good : Good m) where
   abbrev bytes : List ℕ
-  bytes = recordBytes m
+  bytes = record_bytes m
 
   indices-words : Below 4294967296 m.indices
   indices-words i within = let small = good.indices-below i within in omega (arith, small, good.offset_word)
@@ -46,13 +46,13 @@ module _ (m : Mesh) (good : Good m) where
 
   header-words : Below 4294967296 (header m)
   header-words =
-      seven-below 4294967296 1 m.size m.numbering (vertexCount m) 28 (length m.indices) (28 + 12 * vertexCount m) (omega arith) (omega (arith, good.most))
+      seven-below 4294967296 1 m.size m.numbering (vertex_count m) 28 (length m.indices) (28 + 12 * vertex_count m) (omega arith) (omega (arith, good.most))
       (omega (arith, good.numbering-word)) (omega (arith, good.offset_word)) (omega arith) good.indices-word good.offset_word
 
   all_words : words bytes ≡ header m ++ m.coordinates ++ m.indices
-  all_words = words-bytesOf (header m ++ m.coordinates ++ m.indices) (below-append 4294967296 (header m) (m.coordinates ++ m.indices) header-words contents-words)
+  all_words = words-bytes_of (header m ++ m.coordinates ++ m.indices) (below-append 4294967296 (header m) (m.coordinates ++ m.indices) header-words contents-words)
 
-  pub record-whole : length bytes ≡ 28 + 12 * vertexCount m + 4 * length m.indices
+  pub record-whole : length bytes ≡ 28 + 12 * vertex_count m + 4 * length m.indices
   record-whole = omega (arith, record-length m, good.coordinates-whole)
 
   -- the words of the header, by number
@@ -70,7 +70,7 @@ module _ (m : Mesh) (good : Good m) where
   numbering-is : word_at bytes 8 ≡ m.numbering
   numbering-is = header-word 2 8 (omega arith) refl
 
-  vertices-is : word_at bytes 12 ≡ vertexCount m
+  vertices-is : word_at bytes 12 ≡ vertex_count m
   vertices-is = header-word 3 12 (omega arith) refl
 
   vertices-at-is : word_at bytes 16 ≡ 28
@@ -79,16 +79,16 @@ module _ (m : Mesh) (good : Good m) where
   indices-is : word_at bytes 20 ≡ length m.indices
   indices-is = header-word 5 20 (omega arith) refl
 
-  indices-at-is : word_at bytes 24 ≡ 28 + 12 * vertexCount m
+  indices-at-is : word_at bytes 24 ≡ 28 + 12 * vertex_count m
   indices-at-is = header-word 6 24 (omega arith) refl
 
-  coordinates-are : wordsFrom bytes 28 (3 * word_at bytes 12) ≡ m.coordinates
+  coordinates-are : words_from bytes 28 (3 * word_at bytes 12) ≡ m.coordinates
   coordinates-are =
       let body : words (drop 28 bytes) ≡ m.coordinates ++ m.indices = words-drop 7 bytes ∙ ap (drop 7) all_words in
       let count : 3 * word_at bytes 12 ≡ length m.coordinates = omega (arith, vertices-is, good.coordinates-whole) in
       ap₂ (λ (k : ℕ) (l : List ℕ). take k l) count body ∙ take-append_seam m.coordinates m.indices
 
-  indices-are : wordsFrom bytes (28 + 12 * word_at bytes 12) (word_at bytes 20) ≡ m.indices
+  indices-are : words_from bytes (28 + 12 * word_at bytes 12) (word_at bytes 20) ≡ m.indices
   indices-are =
       let place : 28 + 12 * word_at bytes 12 ≡ 4 * (7 + length m.coordinates) = omega (arith, vertices-is, good.coordinates-whole) in
       let front : length (header m ++ m.coordinates) ≡ 7 + length m.coordinates = length-append (header m) m.coordinates in
@@ -99,25 +99,25 @@ module _ (m : Mesh) (good : Good m) where
       ap₂ (λ (k : ℕ) (l : List ℕ). take k l) indices-is tail ∙ take-length m.indices
 
   -- Reading what was written gives the mesh back.
-  pub record-holds : meshIn (recordBytes m) ≡ m
-  unfolding meshIn
+  pub record-holds : mesh_in (record_bytes m) ≡ m
+  unfolding mesh_in
   record-holds = rw (size_is, numbering-is, coordinates-are, indices-are)
 
   pub contents-none : none ≡ contents 28 m
   contents-none =
-      let finite-all = all-lowestBad finite m.coordinates good.coordinates-finite in
-      let below_all = all-lowestBad (below (vertexCount m)) m.indices (λ i within. lt-ltb (get_or m.indices i 0) (vertexCount m) (good.indices-below i within)) in
-      contents-passed 28 m (lowestBad finite m.coordinates) (lowestBad (below (vertexCount m)) m.indices) refl
+      let finite-all = all-lowest_bad finite m.coordinates good.coordinates-finite in
+      let below_all = all-lowest_bad (below (vertex_count m)) m.indices (λ i within. lt-ltb (get_or m.indices i 0) (vertex_count m) (good.indices-below i within)) in
+      contents-passed 28 m (lowest_bad finite m.coordinates) (lowest_bad (below (vertex_count m)) m.indices) refl
       (omega (arith, finite-all)) refl (omega (arith, below_all))
 
   -- The record of a good mesh is accepted.
-  pub record-accepted : refusalIn (recordBytes m) ≡ none
+  pub record-accepted : refusal_in (record_bytes m) ≡ none
   record-accepted =
       let whole : length bytes ≡ 28 + 12 * word_at bytes 12 + 4 * word_at bytes 20 = omega (arith, record-whole, vertices-is, indices-is) in
-      sym (refusalIn-contents bytes (omega (arith, record-whole)) (word_at bytes 0) (word_at bytes 4) (word_at bytes 8) none refl refl refl
+      sym (refusal_in-contents bytes (omega (arith, record-whole)) (word_at bytes 0) (word_at bytes 4) (word_at bytes 8) none refl refl refl
       (opening-passed (word_at bytes 0) (word_at bytes 4) (word_at bytes 8) version-is
       (omega (arith, size_is, good.least)) (omega (arith, size_is, good.most)) (omega (arith, numbering-is, good.numbering-word)))
-      refl none (fieldsIn-passed bytes vertices-at-is (ap (λ (k : ℕ). k % 3) indices-is ∙ good.indices-whole)
+      refl none (fields_in-passed bytes vertices-at-is (ap (λ (k : ℕ). k % 3) indices-is ∙ good.indices-whole)
       (indices-at-is ∙ ap (λ (k : ℕ). 28 + 12 * k) (sym vertices-is)) whole)
       refl none (contents-none ∙ ap (contents 28) (sym record-holds)))
 
@@ -135,9 +135,9 @@ seven (p ∷ q ∷ r ∷ s ∷ t ∷ []) a b c d e f g h ea eb ec ed ee ef eg = 
 seven (p ∷ q ∷ r ∷ s ∷ t ∷ u ∷ []) a b c d e f g h ea eb ec ed ee ef eg = absurd (omega arith)
 seven (p ∷ q ∷ r ∷ s ∷ t ∷ u ∷ v ∷ l) a b c d e f g h ea eb ec ed ee ef eg = cc
 
-module _ (bytes : List ℕ) (small : Below 256 bytes) (accepted : (refusalIn bytes).cause ≡ 0) where
+module _ (bytes : List ℕ) (small : Below 256 bytes) (accepted : (refusal_in bytes).cause ≡ 0) where
   known : Whole bytes
-  known = refusalIn-known bytes accepted
+  known = refusal_in-known bytes accepted
 
   fours : length bytes ≡ 4 * (length bytes / 4)
   fours = let whole = known.fields.whole in omega arith
@@ -148,8 +148,8 @@ module _ (bytes : List ℕ) (small : Below 256 bytes) (accepted : (refusalIn byt
   word : (i place : ℕ) → i < 7 → 4 * i ≡ place → get_or (words bytes) i 0 ≡ word_at bytes place
   word i place h e = words-at bytes i (omega (arith, h, count)) ∙ ap (word_at bytes) e
 
-  body : drop 7 (words bytes) ≡ (meshIn bytes).coordinates ++ (meshIn bytes).indices
-  unfolding meshIn
+  body : drop 7 (words bytes) ≡ (mesh_in bytes).coordinates ++ (mesh_in bytes).indices
+  unfolding mesh_in
   body =
       let vertices = word_at bytes 12 in
       let place : 28 + 12 * vertices ≡ 4 * (7 + 3 * vertices) = omega arith in
@@ -161,34 +161,34 @@ module _ (bytes : List ℕ) (small : Below 256 bytes) (accepted : (refusalIn byt
       ∙ ap₂ (λ (p q : List ℕ). p ++ q) (ap (take (3 * vertices)) (sym (words-drop 7 bytes)))
       (rest ∙ sym (take_all (word_at bytes 20) (words (drop (28 + 12 * vertices) bytes)) short))
 
-  header_is : header (meshIn bytes) ++ drop 7 (words bytes) ≡ words bytes
-  unfolding meshIn
+  header_is : header (mesh_in bytes) ++ drop 7 (words bytes) ≡ words bytes
+  unfolding mesh_in
   header_is =
       let whole = known.fields.whole in
-      let vertices : word_at bytes 12 ≡ vertexCount (meshIn bytes) = sym (meshIn-vertices bytes whole) in
-      let indices : word_at bytes 20 ≡ length (meshIn bytes).indices = sym (indices-length bytes whole) in
-      seven (words bytes) 1 (word_at bytes 4) (word_at bytes 8) (vertexCount (meshIn bytes)) 28 (length (meshIn bytes).indices) (28 + 12 * vertexCount (meshIn bytes))
+      let vertices : word_at bytes 12 ≡ vertex_count (mesh_in bytes) = sym (mesh_in-vertices bytes whole) in
+      let indices : word_at bytes 20 ≡ length (mesh_in bytes).indices = sym (indices-length bytes whole) in
+      seven (words bytes) 1 (word_at bytes 4) (word_at bytes 8) (vertex_count (mesh_in bytes)) 28 (length (mesh_in bytes).indices) (28 + 12 * vertex_count (mesh_in bytes))
       (omega (arith, count)) (word 0 0 (omega arith) refl ∙ known.opened.first-version) (word 1 4 (omega arith) refl) (word 2 8 (omega arith) refl)
       (word 3 12 (omega arith) refl ∙ vertices) (word 4 16 (omega arith) refl ∙ known.fields.vertices-at) (word 5 20 (omega arith) refl ∙ indices)
       (word 6 24 (omega arith) refl ∙ known.fields.indices-at ∙ ap (λ (k : ℕ). 28 + 12 * k) vertices)
 
   -- An accepted record written again gives the same bytes.
-  pub accepted-again : recordBytes (meshIn bytes) ≡ bytes
+  pub accepted-again : record_bytes (mesh_in bytes) ≡ bytes
   accepted-again =
-      ap (λ (l : List ℕ). bytes_of (header (meshIn bytes) ++ l)) (sym body) ∙ ap bytes_of header_is ∙ bytesOf-words bytes small fours
+      ap (λ (l : List ℕ). bytes_of (header (mesh_in bytes) ++ l)) (sym body) ∙ ap bytes_of header_is ∙ bytes_of-words bytes small fours
 
-  coordinates-small : Below 4294967296 (meshIn bytes).coordinates
-  unfolding meshIn
+  coordinates-small : Below 4294967296 (mesh_in bytes).coordinates
+  unfolding mesh_in
   coordinates-small =
       below-take 4294967296 (3 * word_at bytes 12) (words (drop 28 bytes))
       (subst (Below 4294967296) (sym (words-drop 7 bytes)) (below-drop 4294967296 7 (words bytes) (words-below bytes small)))
 
   -- What is accepted is a good mesh.
-  pub accepted-good : Good (meshIn bytes)
-  unfolding meshIn
+  pub accepted-good : Good (mesh_in bytes)
+  unfolding mesh_in
   accepted-good =
       let whole = known.fields.whole in
-      let vertices = meshIn-vertices bytes whole in
+      let vertices = mesh_in-vertices bytes whole in
       let indices = indices-length bytes whole in
       record {
         least = known.opened.least;
@@ -199,8 +199,8 @@ module _ (bytes : List ℕ) (small : Below 256 bytes) (accepted : (refusalIn byt
         coordinates-finite = known.sound.coordinates-finite;
         indices-whole = ap (λ (k : ℕ). k % 3) indices ∙ known.fields.threes;
         indices-below = known.sound.indices-below;
-        indices-word = omega (arith, indices, wordAt-lt bytes small 20);
-        offset_word = omega (arith, vertices, known.fields.indices-at, wordAt-lt bytes small 24);
+        indices-word = omega (arith, indices, word_at-lt bytes small 20);
+        offset_word = omega (arith, vertices, known.fields.indices-at, word_at-lt bytes small 24);
       }
 
 -- ---- both ways
@@ -209,17 +209,17 @@ module _ (bytes : List ℕ) (small : Below 256 bytes) (accepted : (refusalIn byt
 pub record RecordOfGood (bytes : List ℕ) : Type 0 where
   pub mesh : Mesh
   pub good : Good mesh
-  pub is : bytes ≡ recordBytes mesh
+  pub is : bytes ≡ record_bytes mesh
 
 -- The bytes that are accepted are exactly the records of good meshes,
-pub accepted-exactly : (bytes : List ℕ) → Below 256 bytes → ((refusalIn bytes).cause ≡ 0 → RecordOfGood bytes) × (RecordOfGood bytes → (refusalIn bytes).cause ≡ 0)
+pub accepted-exactly : (bytes : List ℕ) → Below 256 bytes → ((refusal_in bytes).cause ≡ 0 → RecordOfGood bytes) × (RecordOfGood bytes → (refusal_in bytes).cause ≡ 0)
 accepted-exactly bytes small = (
-  λ accepted. record { mesh = meshIn bytes; good = accepted-good bytes small accepted; is = sym (accepted-again bytes small accepted) },
-  λ held. ap (λ (l : List ℕ). (refusalIn l).cause) held.is ∙ ap (λ (r : Refusal). r.cause) (record-accepted held.mesh held.good),
+  λ accepted. record { mesh = mesh_in bytes; good = accepted-good bytes small accepted; is = sym (accepted-again bytes small accepted) },
+  λ held. ap (λ (l : List ℕ). (refusal_in l).cause) held.is ∙ ap (λ (r : Refusal). r.cause) (record-accepted held.mesh held.good),
 )
 
 -- and two records of one mesh are the same bytes.
-pub records-equal : (first second : List ℕ) → Below 256 first → Below 256 second → (refusalIn first).cause ≡ 0 → (refusalIn second).cause ≡ 0
-    → meshIn first ≡ meshIn second → first ≡ second
+pub records-equal : (first second : List ℕ) → Below 256 first → Below 256 second → (refusal_in first).cause ≡ 0 → (refusal_in second).cause ≡ 0
+    → mesh_in first ≡ mesh_in second → first ≡ second
 records-equal first second first_small second-small first-accepted second-accepted same =
-    sym (accepted-again first first_small first-accepted) ∙ ap recordBytes same ∙ accepted-again second second-small second-accepted
+    sym (accepted-again first first_small first-accepted) ∙ ap record_bytes same ∙ accepted-again second second-small second-accepted

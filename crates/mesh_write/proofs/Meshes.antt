@@ -8,72 +8,72 @@ use lib.ListN.{length, length-map}
 use lib.Ieee.{Float, binary32, to_bits}
 use borrow.Author.Tests.{eq-eqb, ne_eqb}
 use Rattle.mesh_record.specs.declared.Refusal.{Refusal}
-use Rattle.mesh_record.specs.Mesh.{Mesh, vertexCount, finite, below}
-use Rattle.mesh_record.specs.Refusals.{none, malformed, opening, lowestBad, contents}
+use Rattle.mesh_record.specs.Mesh.{Mesh, vertex_count, finite, below}
+use Rattle.mesh_record.specs.Refusals.{none, malformed, opening, lowest_bad, contents}
 use Rattle.mesh_record.proofs.Contents.{contents-coordinate, contents-index, contents-passed}
 use Rattle.mesh_record.proofs.Passed.{part-passed}
 use Rattle.mesh_write.specs.declared.WriteAnswer.{WriteAnswer}
-use Rattle.mesh_write.specs.Writing.{meshOf, Fits, fields_of, refusalOf, Written, left, answered, put, writing}
-use Rattle.mesh_write.proofs.Fields.{fieldsOf-known}
+use Rattle.mesh_write.specs.Writing.{mesh_of, Fits, fields_of, refusal_of, Written, left, answered, put, writing}
+use Rattle.mesh_write.proofs.Fields.{fields_of-known}
 
 pub bits-length : (coordinates : List Float) → length (map (to_bits binary32) coordinates) ≡ length coordinates
 bits-length coordinates = length-map coordinates (to_bits binary32)
 
 -- ---- vertices and indices
 
-module _ (coordinates : List Float) (indices : List ℕ) (coordinate : ℕ) (c : coordinate ≡ lowestBad finite (map (to_bits binary32) coordinates)) where
+module _ (coordinates : List Float) (indices : List ℕ) (coordinate : ℕ) (c : coordinate ≡ lowest_bad finite (map (to_bits binary32) coordinates)) where
   abbrev m : Mesh
-  m = meshOf 0 0 coordinates indices
+  m = mesh_of 0 0 coordinates indices
 
-  pub contentsOf-coordinate : coordinate < length coordinates → malformed (28 + 4 * coordinate) ≡ contents 28 (meshOf 0 0 coordinates indices)
-  contentsOf-coordinate h = contents-coordinate 28 m coordinate 0 c (omega (arith, h, bits-length coordinates))
+  pub contents_of-coordinate : coordinate < length coordinates → malformed (28 + 4 * coordinate) ≡ contents 28 (mesh_of 0 0 coordinates indices)
+  contents_of-coordinate h = contents-coordinate 28 m coordinate 0 c (omega (arith, h, bits-length coordinates))
 
-  module _ (index : ℕ) (finite-all : length coordinates ≤ coordinate) (i : index ≡ lowestBad (below (length coordinates / 3)) indices) where
-    found : index ≡ lowestBad (below (vertexCount m)) indices
-    found = i ∙ ap (λ (k : ℕ). lowestBad (below (k / 3)) indices) (sym (bits-length coordinates))
+  module _ (index : ℕ) (finite-all : length coordinates ≤ coordinate) (i : index ≡ lowest_bad (below (length coordinates / 3)) indices) where
+    found : index ≡ lowest_bad (below (vertex_count m)) indices
+    found = i ∙ ap (λ (k : ℕ). lowest_bad (below (k / 3)) indices) (sym (bits-length coordinates))
 
-    pub contentsOf-index : index < length indices → malformed (28 + 4 * length coordinates + 4 * index) ≡ contents 28 (meshOf 0 0 coordinates indices)
-    contentsOf-index h =
+    pub contents_of-index : index < length indices → malformed (28 + 4 * length coordinates + 4 * index) ≡ contents 28 (mesh_of 0 0 coordinates indices)
+    contents_of-index h =
         ap (λ (k : ℕ). malformed (28 + 4 * k + 4 * index)) (sym (bits-length coordinates))
         ∙ contents-index 28 m coordinate index c (omega (arith, finite-all, bits-length coordinates)) found h
 
-    pub contentsOf-passed : length indices ≤ index → none ≡ contents 28 (meshOf 0 0 coordinates indices)
-    contentsOf-passed h = contents-passed 28 m coordinate index c (omega (arith, finite-all, bits-length coordinates)) found h
+    pub contents_of-passed : length indices ≤ index → none ≡ contents 28 (mesh_of 0 0 coordinates indices)
+    contents_of-passed h = contents-passed 28 m coordinate index c (omega (arith, finite-all, bits-length coordinates)) found h
 
 -- ---- a mesh
 
 module _ (version size numbering : ℕ) (coordinates : List Float) (indices : List ℕ) (first : Refusal) (is : first ≡ opening version size numbering) where
-  pub refusalOf-opening : first.cause ≢ 0 → first ≡ refusalOf version (meshOf size numbering coordinates indices)
-  unfolding refusalOf
-  refusalOf-opening h = rw (← is, ne_eqb first.cause 0 h)
+  pub refusal_of-opening : first.cause ≢ 0 → first ≡ refusal_of version (mesh_of size numbering coordinates indices)
+  unfolding refusal_of
+  refusal_of-opening h = rw (← is, ne_eqb first.cause 0 h)
 
   module _ (first-passed : first.cause ≡ 0) (second : Refusal) (fields : second ≡ fields_of (length coordinates) (length indices)) where
     told : second ≡ fields_of (length (map (to_bits binary32) coordinates)) (length indices)
     told = fields ∙ ap (λ (k : ℕ). fields_of k (length indices)) (sym (bits-length coordinates))
 
-    pub refusalOf-fields : second.cause ≢ 0 → second ≡ refusalOf version (meshOf size numbering coordinates indices)
-    unfolding refusalOf
-    refusalOf-fields h = rw (← is, eq-eqb first.cause 0 first-passed, ← told, ne_eqb second.cause 0 h)
+    pub refusal_of-fields : second.cause ≢ 0 → second ≡ refusal_of version (mesh_of size numbering coordinates indices)
+    unfolding refusal_of
+    refusal_of-fields h = rw (← is, eq-eqb first.cause 0 first-passed, ← told, ne_eqb second.cause 0 h)
 
-    pub refusalOf-contents : second.cause ≡ 0 → (third : Refusal) → third ≡ contents 28 (meshOf 0 0 coordinates indices)
-        → third ≡ refusalOf version (meshOf size numbering coordinates indices)
-    unfolding refusalOf contents
-    refusalOf-contents h third last = rw (← is, eq-eqb first.cause 0 first-passed, ← told, eq-eqb second.cause 0 h) last
+    pub refusal_of-contents : second.cause ≡ 0 → (third : Refusal) → third ≡ contents 28 (mesh_of 0 0 coordinates indices)
+        → third ≡ refusal_of version (mesh_of size numbering coordinates indices)
+    unfolding refusal_of contents
+    refusal_of-contents h third last = rw (← is, eq-eqb first.cause 0 first-passed, ← told, eq-eqb second.cause 0 h) last
 
 -- the counts of a mesh that is not refused fit their fields
-pub refusalOf-fits : (version size numbering : ℕ) (coordinates : List Float) (indices : List ℕ) (r : Refusal)
-    → r ≡ refusalOf version (meshOf size numbering coordinates indices) → r.cause ≡ 0 → Fits (length coordinates) (length indices)
-unfolding refusalOf
-refusalOf-fits version size numbering coordinates indices r is passed =
+pub refusal_of-fits : (version size numbering : ℕ) (coordinates : List Float) (indices : List ℕ) (r : Refusal)
+    → r ≡ refusal_of version (mesh_of size numbering coordinates indices) → r.cause ≡ 0 → Fits (length coordinates) (length indices)
+unfolding refusal_of
+refusal_of-fits version size numbering coordinates indices r is passed =
     let h = sym (ap (λ (q : Refusal). q.cause) is) ∙ passed in
-    let m = meshOf size numbering coordinates indices in
+    let m = mesh_of size numbering coordinates indices in
     let fields = fields_of (length (map (to_bits binary32) coordinates)) (length indices) in
     let rest = part-passed (opening version size numbering) _ h in
-    rw (← bits-length coordinates) (fieldsOf-known (length (map (to_bits binary32) coordinates)) (length indices) (part-passed fields (contents 28 m) rest.1).0)
+    rw (← bits-length coordinates) (fields_of-known (length (map (to_bits binary32) coordinates)) (length indices) (part-passed fields (contents 28 m) rest.1).0)
 
 -- ---- what is left
 
-module _ (version : ℕ) (m : Mesh) (out : List ℕ) (r : Refusal) (is : r ≡ refusalOf version m) where
+module _ (version : ℕ) (m : Mesh) (out : List ℕ) (r : Refusal) (is : r ≡ refusal_of version m) where
   pub writing-refused : (answer : WriteAnswer) → answer ≡ answered r.cause r.place 0 → r.cause ≢ 0 → left answer out ≡ writing version m out
   unfolding writing
   writing-refused answer told h = rw (← is, ne_eqb r.cause 0 h, told)

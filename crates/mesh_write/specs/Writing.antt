@@ -5,26 +5,26 @@ use Rattle.std.specs.Float.{binary32}
 use Rattle.std.specs.Float.Ieee.{to_bits}
 use Rattle.little_endian.specs.Words.{over}
 use Rattle.mesh_record.specs.declared.Refusal.{Refusal}
-use Rattle.mesh_record.specs.Mesh.{Mesh, recordBytes}
-use Rattle.mesh_record.specs.Refusals.{malformed, none, or_else, inThrees, opening, contents}
+use Rattle.mesh_record.specs.Mesh.{Mesh, record_bytes}
+use Rattle.mesh_record.specs.Refusals.{malformed, none, or_else, in_threes, opening, contents}
 use Rattle.mesh_write.specs.declared.WriteAnswer.{WriteAnswer}
 
 -- the mesh of lent floats and words
-abbrev pub meshOf : ℕ → ℕ → List Float → List ℕ → Mesh
-meshOf size numbering coordinates indices =
+abbrev pub mesh_of : ℕ → ℕ → List Float → List ℕ → Mesh
+mesh_of size numbering coordinates indices =
     record { size = size; numbering = numbering; coordinates = map (to_bits binary32) coordinates; indices = indices }
 
 -- a count or a place that a word cannot hold
-abbrev pub tooLarge : ℕ → Bool
-tooLarge n = ltb 4294967295 n
+abbrev pub too_large : ℕ → Bool
+too_large n = ltb 4294967295 n
 
 -- the other fields of the header to be, the lowest first: the counts, by how many coordinates and indices are lent, and where the indices start
 unfoldable pub fields_of : ℕ → ℕ → Refusal
 fields_of coordinates indices =
     let vertices = coordinates / 3 in
-    cond (not (inThrees coordinates) || tooLarge vertices) (malformed 12)
-    (cond (not (inThrees indices) || tooLarge indices) (malformed 20)
-    (cond (tooLarge (28 + 12 * vertices)) (malformed 24) none))
+    cond (not (in_threes coordinates) || too_large vertices) (malformed 12)
+    (cond (not (in_threes indices) || too_large indices) (malformed 20)
+    (cond (too_large (28 + 12 * vertices)) (malformed 24) none))
 
 -- no field is refused: what a private function asks for
 pub record Fits (coordinates indices : ℕ) : Type 0 where
@@ -34,8 +34,8 @@ pub record Fits (coordinates indices : ℕ) : Type 0 where
   pub offset_word : 28 + 12 * (coordinates / 3) ≤ 4294967295
 
 -- the first refusal of a mesh, or none
-unfoldable pub refusalOf : ℕ → Mesh → Refusal
-refusalOf version m =
+unfoldable pub refusal_of : ℕ → Mesh → Refusal
+refusal_of version m =
     or_else (opening version m.size m.numbering) (or_else (fields_of (length m.coordinates) (length m.indices)) (contents 28 m))
 
 -- everything that the call leaves
@@ -52,11 +52,11 @@ answered cause place bytes = record { cause = cause; place = place; bytes = byte
 -- the record at the front of the output, where that has the room; else cause 10, with the room needed
 unfoldable pub put : Mesh → List ℕ → Written
 put m out =
-    let bytes = recordBytes m in
+    let bytes = record_bytes m in
     cond (ltb (length out) (length bytes)) (left (answered 10 0 (length bytes)) out) (left (answered 0 0 (length bytes)) (over bytes out))
 
 -- a refusal changes nothing
 unfoldable pub writing : ℕ → Mesh → List ℕ → Written
 writing version m out =
-    let r = refusalOf version m in
+    let r = refusal_of version m in
     cond (eqb r.cause 0) (put m out) (left (answered r.cause r.place 0) out)

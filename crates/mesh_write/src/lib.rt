@@ -4,8 +4,8 @@ ghost use Rattle.std.specs.Prelude.{◌≡◌, map, ◌≤◌, length};
 ghost use Rattle.std.specs.Float.{binary32};
 ghost use Rattle.std.specs.Float.Ieee.{to_bits};
 ghost use Rattle.mesh_record.specs.Mesh.{finite, below};
-ghost use Rattle.mesh_record.specs.Refusals.{lowestBad, contents};
-ghost use Rattle.mesh_write.specs.Writing.{meshOf, fields_of, Fits, refusalOf, left, put, writing};
+ghost use Rattle.mesh_record.specs.Refusals.{lowest_bad, contents};
+ghost use Rattle.mesh_write.specs.Writing.{mesh_of, fields_of, Fits, refusal_of, left, put, writing};
 
 use little_endian::{bits_of, put_word};
 use mesh_record::{Refusal, is_finite, opening, refused};
@@ -56,7 +56,7 @@ fn fields_of(coordinates: u64, indices: u64) -> Refusal
 
 // The first coordinate that is not finite, or their number.
 fn lowest_infinite(coordinates: &[f32]) -> usize
-    ensures { result ≡ lowestBad finite (map (to_bits binary32) coordinates.now) }
+    ensures { result ≡ lowest_bad finite (map (to_bits binary32) coordinates.now) }
 {
     let mut i = 0;
     while i < coordinates.len() {
@@ -70,7 +70,7 @@ fn lowest_infinite(coordinates: &[f32]) -> usize
 
 // The first index that is not below the limit, or their number.
 fn lowest_beyond(indices: &[u32], limit: u32) -> usize
-    ensures { result ≡ lowestBad (below limit) indices.now }
+    ensures { result ≡ lowest_bad (below limit) indices.now }
 {
     let mut i = 0;
     while i < indices.len() {
@@ -85,7 +85,7 @@ fn lowest_beyond(indices: &[u32], limit: u32) -> usize
 // The lowest bad vertex or index, where both counts fit their words.
 fn contents_of(coordinates: &[f32], indices: &[u32]) -> Refusal
     requires { (length coordinates.now ≤ 12884901885) × (length indices.now ≤ 4294967295) }
-    ensures { result ≡ contents 28 (meshOf 0 0 coordinates.now indices.now) }
+    ensures { result ≡ contents 28 (mesh_of 0 0 coordinates.now indices.now) }
 {
     let coordinate = lowest_infinite(coordinates);
     if coordinate < coordinates.len() {
@@ -106,7 +106,7 @@ fn refusal_of(
     coordinates: &[f32],
     indices: &[u32],
 ) -> Refusal
-    ensures { result ≡ refusalOf version (meshOf size numbering coordinates.now indices.now) }
+    ensures { result ≡ refusal_of version (mesh_of size numbering coordinates.now indices.now) }
 {
     let first = opening(version, size, numbering);
     if first.cause != 0 {
@@ -128,7 +128,7 @@ fn put_mesh(
     out: &mut [u8],
 ) -> WriteAnswer
     requires { Fits (length coordinates.now) (length indices.now) }
-    ensures { left result out.new ≡ put (meshOf size numbering coordinates.now indices.now) out.old }
+    ensures { left result out.new ≡ put (mesh_of size numbering coordinates.now indices.now) out.old }
 {
     let vertices = (coordinates.len() / 3) as u32;
     let count = indices.len() as u32;
@@ -155,7 +155,7 @@ pub fn write_mesh(
     indices: &[u32],
     out: &mut [u8],
 ) -> WriteAnswer
-    ensures whole { left result out.new ≡ writing version (meshOf size numbering coordinates.now indices.now) out.old }
+    ensures whole { left result out.new ≡ writing version (mesh_of size numbering coordinates.now indices.now) out.old }
 {
     let first = refusal_of(version, size, numbering, coordinates, indices);
     if first.cause != 0 {

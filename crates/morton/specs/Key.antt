@@ -1,4 +1,4 @@
--- What a Morton key is: document 01, "Morton keys". The level is held to the highest set bit by `topBit-at` of proofs/TopBit.antt.
+-- What a Morton key is: document 01, "Morton keys". The level is held to the highest set bit by `top_bit-at` of proofs/TopBit.antt.
 use Rattle.std.specs.Prelude.{Bool, not, ◌&&◌, ℕ, ◌-◌, ◌/◌, ◌%◌, eqb}
 use Rattle.std.specs.Int.Count.{count_leading_zeros}
 
@@ -11,5 +11,5 @@ unfoldable pub good : ℕ → Bool
 good key = not (eqb key 0) && eqb (top_bit key % 3) 0
 
 -- the level of a good key
-unfoldable pub levelIn : ℕ → ℕ
-levelIn key = top_bit key / 3
+unfoldable pub level_in : ℕ → ℕ
+level_in key = top_bit key / 3

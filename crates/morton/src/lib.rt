@@ -1,8 +1,8 @@
 // Keys of octree cells with interleaved coordinates: `level`, `parent` and `child` of morton.rs, which
 // is ported without primal_vertex and dual_vertex. A bad key, or a bad child, is refused with cause 9.
 ghost use Rattle.std.specs.Prelude.{◌≡◌, T};
-ghost use Rattle.morton.specs.Key.{good, levelIn};
-ghost use Rattle.morton.specs.Answer.{levelOf, parent_of, childOf};
+ghost use Rattle.morton.specs.Key.{good, level_in};
+ghost use Rattle.morton.specs.Answer.{level_of, parent_of, child_of};
 
 const MAX_LEVEL: u32 = 21;
 
@@ -26,14 +26,14 @@ pub fn is_good(key: u64) -> bool
 // The level of a good key.
 pub fn level_in(key: u64) -> u32
     requires { T (good key) }
-    ensures { result ≡ levelIn key }
+    ensures { result ≡ level_in key }
 {
     (63 - u64::leading_zeros(key)) / 3
 }
 
 // The depth of the key's cell in the octree.
 pub fn level(key: u64) -> Number
-    ensures { result ≡ levelOf key }
+    ensures { result ≡ level_of key }
 {
     if !is_good(key) {
         return Number::Refused;
@@ -57,7 +57,7 @@ pub fn parent(key: u64) -> Number
 
 // The key of one of the eight cells in this one, of which there are none at the last level.
 pub fn child(key: u64, which: u32) -> Number
-    ensures { result ≡ childOf key which }
+    ensures { result ≡ child_of key which }
 {
     if !is_good(key) {
         return Number::Refused;

@@ -12,30 +12,30 @@ use Rattle.morton_cells.specs.declared.Length.{Length}
 use Rattle.morton_cells.specs.declared.Length.TheVariants as length
 use Rattle.morton_cells.specs.declared.Point.{Point}
 use Rattle.morton_cells.specs.declared.Point.TheVariants as point
-use Rattle.morton.specs.Key.{top_bit, good, levelIn}
-use Rattle.morton_sums.specs.Interleaved.{thirds, spread, sum_of, differenceOf}
-use Rattle.morton.specs.Answer.{levelOf, parent_of, childOf}
-use Rattle.morton_cells.specs.Cell.{halfSizeOf, centerOf}
+use Rattle.morton.specs.Key.{top_bit, good, level_in}
+use Rattle.morton_sums.specs.Interleaved.{thirds, spread, sum_of, difference_of}
+use Rattle.morton.specs.Answer.{level_of, parent_of, child_of}
+use Rattle.morton_cells.specs.Cell.{half_size_of, center_of}
 
 -- what is asked
 data Case : Type 0 where
-  level parent halfSize center : ℕ → Case
+  level parent half_size center : ℕ → Case
   child sum difference : ℕ → ℕ → Case
 
 data Answer : Type 0 where
   is_number : Number → Answer
-  isLength : Length → Answer
-  isPoint : Point → Answer
-  isWord : ℕ → Answer
+  is_length : Length → Answer
+  is_point : Point → Answer
+  is_word : ℕ → Answer
 
 abbrev answer : Case → Answer
-answer (level key) = is_number (levelOf key)
+answer (level key) = is_number (level_of key)
 answer (parent key) = is_number (parent_of key)
-answer (child key which) = is_number (childOf key which)
-answer (halfSize key) = isLength (halfSizeOf key)
-answer (center key) = isPoint (centerOf key)
-answer (sum a b) = isWord (sum_of a b)
-answer (difference a b) = isWord (differenceOf a b)
+answer (child key which) = is_number (child_of key which)
+answer (half_size key) = is_length (half_size_of key)
+answer (center key) = is_point (center_of key)
+answer (sum a b) = is_word (sum_of a b)
+answer (difference a b) = is_word (difference_of a b)
 
 abbrev quarter : Float
 quarter = fin false 1 (negsuc 1)
@@ -48,7 +48,7 @@ cases : map answer (
     level 8 ∷
     parent 8 ∷
     center 8 ∷
-    halfSize 8 ∷
+    half_size 8 ∷
     -- the root
     level 1 ∷
     parent 1 ∷
@@ -66,8 +66,8 @@ cases : map answer (
     []) ≡
     is_number (number.Is 1) ∷
     is_number (number.Is 1) ∷
-    isPoint (point.At (record { x = quarter; y = quarter; z = quarter })) ∷
-    isLength (length.Is quarter) ∷
+    is_point (point.At (record { x = quarter; y = quarter; z = quarter })) ∷
+    is_length (length.Is quarter) ∷
     is_number (number.Is 0) ∷
     is_number (number.Is 1) ∷
     is_number (number.Is 15) ∷
@@ -76,8 +76,8 @@ cases : map answer (
     refused ∷
     refused ∷
     is_number (number.Is 21) ∷
-    isWord 0 ∷
-    isWord 0xFFFF_FFFF_FFFF_FFFF ∷
+    is_word 0 ∷
+    is_word 0xFFFF_FFFF_FFFF_FFFF ∷
     []
-unfolding count_leading_zeros top_bit good levelIn thirds spread
+unfolding count_leading_zeros top_bit good level_in thirds spread
 cases = refl

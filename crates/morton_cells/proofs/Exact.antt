@@ -12,7 +12,7 @@ use lib.Ieee.Fits.{and_l, down_pos, add-fits, div-fits, of_int-fits}
 use lib.Ieee.Exact.{HasValue, round_exact}
 use lib.Ieee.Scale.{round_same}
 use lib.Ieee.Back.{round_whole, whole_unique}
-use Rattle.morton_cells.specs.Cell.{halfSizeAt, centerAt}
+use Rattle.morton_cells.specs.Cell.{half_size_at, center_at}
 
 -- ---- an odd number over a power of two is written in one way
 
@@ -118,7 +118,7 @@ power-float n h =
     whole_unique binary32 (round binary32 false (2 ^ n) 1) (fin false 1 (pos n)) false (2 ^ n) (of_int-fits binary32 (pos (2 ^ n))) (power-fits n h)
     (round_whole binary32 false (2 ^ n) (pow_mono h)) (refl, omega arith)
 
-pub half-size-exact : (level : ℕ) → level ≤ 21 → div binary32 (of_bits binary32 0x3F80_0000) (of_int binary32 (pos (2 ^ suc level))) ≡ halfSizeAt level
+pub half-size-exact : (level : ℕ) → level ≤ 21 → div binary32 (of_bits binary32 0x3F80_0000) (of_int binary32 (pos (2 ^ suc level))) ≡ half_size_at level
 unfolding div of_bits
 half-size-exact level h =
     ap (div binary32 (fin false 1 (pos 0))) (power-float (suc level) (omega arith))
@@ -128,7 +128,7 @@ half-size-exact level h =
 
 module _ (b level : ℕ) (level-le : level ≤ 21) (b_lt : b < 2 ^ level) where
   abbrev size : Float
-  size = halfSizeAt level
+  size = half_size_at level
 
   small : b < 2 ^ 21
   small = lt_of_lt_of_le b_lt (pow_mono level-le)
@@ -150,7 +150,7 @@ module _ (b level : ℕ) (level-le : level ≤ 21) (b_lt : b < 2 ^ level) where
       mul-exact b level (lt_of_lt_of_le small (lit≤ tt)) (omega arith) (round binary32 false b 1) (mul binary32 size (of_bits binary32 0x4000_0000)) b 1 1 (2 ^ level)
       (omega arith) (pow_pos level) (round_whole binary32 false b (le_of_lt (lt_of_lt_of_le small (lit≤ tt)))) twice (omega arith)
 
-  pub center-exact : add binary32 (mul binary32 (of_int binary32 (pos b)) (mul binary32 size (of_bits binary32 0x4000_0000))) size ≡ centerAt b level
+  pub center-exact : add binary32 (mul binary32 (of_int binary32 (pos b)) (mul binary32 size (of_bits binary32 0x4000_0000))) size ≡ center_at b level
   center-exact =
       let low = mul binary32 (of_int binary32 (pos b)) (mul binary32 size (of_bits binary32 0x4000_0000)) in
       value-unique (add binary32 low size) b level (add-fits binary32 low size)
@@ -161,8 +161,8 @@ module _ (b level : ℕ) (level-le : level ≤ 21) (b_lt : b < 2 ^ level) where
       middle b p = omega arith
 
   -- both are numbers of f32
-  pub centerAt-fits : T (fits binary32 (centerAt b level))
-  centerAt-fits = subst (λ (x : Float). T (fits binary32 x)) center-exact (add-fits binary32 _ size)
+  pub center_at-fits : T (fits binary32 (center_at b level))
+  center_at-fits = subst (λ (x : Float). T (fits binary32 x)) center-exact (add-fits binary32 _ size)
 
-pub halfSizeAt-fits : (level : ℕ) → level ≤ 21 → T (fits binary32 (halfSizeAt level))
-halfSizeAt-fits level h = subst (λ (x : Float). T (fits binary32 x)) (half-size-exact level h) (div-fits binary32 _ _)
+pub half_size_at-fits : (level : ℕ) → level ≤ 21 → T (fits binary32 (half_size_at level))
+half_size_at-fits level h = subst (λ (x : Float). T (fits binary32 x)) (half-size-exact level h) (div-fits binary32 _ _)

@@ -8,39 +8,39 @@ use Rattle.morton_cells.specs.declared.Length.{Length}
 use Rattle.morton_cells.specs.declared.Length.TheVariants as length
 use Rattle.morton_cells.specs.declared.Point.{Point}
 use Rattle.morton_cells.specs.declared.Point.TheVariants as point
-use Rattle.morton.specs.Key.{good, levelIn}
-use Rattle.morton_sums.specs.Interleaved.{Axis, X, Y, Z, onAxis}
+use Rattle.morton.specs.Key.{good, level_in}
+use Rattle.morton_sums.specs.Interleaved.{Axis, X, Y, Z, on_axis}
 
 -- 1 / 2 ^ (level + 1)
-abbrev pub halfSizeAt : ℕ → Float
-halfSizeAt level = fin false 1 (negsuc level)
+abbrev pub half_size_at : ℕ → Float
+half_size_at level = fin false 1 (negsuc level)
 
-abbrev pub halfSizeOf : ℕ → Length
-halfSizeOf key = cond (good key) (length.Is (halfSizeAt (levelIn key))) length.Refused
+abbrev pub half_size_of : ℕ → Length
+half_size_of key = cond (good key) (length.Is (half_size_at (level_in key))) length.Refused
 
 -- (2b + 1) / 2 ^ (level + 1)
-abbrev pub centerAt : ℕ → ℕ → Float
-centerAt b level = fin false (2 * b + 1) (negsuc level)
+abbrev pub center_at : ℕ → ℕ → Float
+center_at b level = fin false (2 * b + 1) (negsuc level)
 
 -- the number on an axis without the key's highest set bit
 abbrev pub below : Axis → ℕ → ℕ
-below axis key = onAxis axis key % 2 ^ levelIn key
+below axis key = on_axis axis key % 2 ^ level_in key
 
-abbrev pub centerOn : Axis → ℕ → Float
-centerOn axis key = centerAt (below axis key) (levelIn key)
+abbrev pub center_on : Axis → ℕ → Float
+center_on axis key = center_at (below axis key) (level_in key)
 
-abbrev pub centerOf : ℕ → Point
-centerOf key = cond (good key) (point.At (record { x = centerOn X key; y = centerOn Y key; z = centerOn Z key })) point.Refused
+abbrev pub center_of : ℕ → Point
+center_of key = cond (good key) (point.At (record { x = center_on X key; y = center_on Y key; z = center_on Z key })) point.Refused
 
 -- document 01's cause of an answer, and the value that it carries: zero where refused
-abbrev pub lengthCause : Length → ℕ
-lengthCause (length.Is value) = 0
-lengthCause length.Refused = 9
+abbrev pub length_cause : Length → ℕ
+length_cause (length.Is value) = 0
+length_cause length.Refused = 9
 
-abbrev pub lengthIn : Length → Float
-lengthIn (length.Is value) = value
-lengthIn length.Refused = of_bits binary32 0
+abbrev pub length_in : Length → Float
+length_in (length.Is value) = value
+length_in length.Refused = of_bits binary32 0
 
-abbrev pub pointCause : Point → ℕ
-pointCause (point.At p) = 0
-pointCause point.Refused = 9
+abbrev pub point_cause : Point → ℕ
+point_cause (point.At p) = 0
+point_cause point.Refused = 9

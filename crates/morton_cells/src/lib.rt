@@ -2,7 +2,7 @@
 // `center` of morton.rs. A bad key is refused with cause 9.
 ghost use Rattle.std.specs.Prelude.{◌≡◌, ◌≤◌};
 ghost use Rattle.morton_sums.specs.Interleaved.{thirds};
-ghost use Rattle.morton_cells.specs.Cell.{halfSizeOf, centerOf, halfSizeAt, centerAt};
+ghost use Rattle.morton_cells.specs.Cell.{half_size_of, center_of, half_size_at, center_at};
 
 use morton::{is_good, level_in};
 
@@ -48,14 +48,14 @@ pub enum Point {
 // `size` of morton.rs.
 fn half_size_at(level: u32) -> f32
     requires { level ≤ 21 }
-    ensures { result ≡ halfSizeAt level }
+    ensures { result ≡ half_size_at level }
 {
     1.0 / ((2u64 << level) as f32)
 }
 
 // The distance from the center of the key's cell to its faces.
 pub fn half_size(key: u64) -> Length
-    ensures { result ≡ halfSizeOf key }
+    ensures { result ≡ half_size_of key }
 {
     if !is_good(key) {
         return Length::Refused;
@@ -78,7 +78,7 @@ fn coordinate(bits: u64, level: u32) -> u64
 // The center of a cell on the axis whose bits are every third one of `bits`.
 fn center_on(bits: u64, level: u32) -> f32
     requires { level ≤ 21 }
-    ensures { result ≡ centerAt (thirds level bits) level }
+    ensures { result ≡ center_at (thirds level bits) level }
 {
     let size = half_size_at(level);
     let size2 = size * 2.0;
@@ -87,7 +87,7 @@ fn center_on(bits: u64, level: u32) -> f32
 
 // The center of the key's cell, in the cube of side 1 that is the root's.
 pub fn center(key: u64) -> Point
-    ensures { result ≡ centerOf key }
+    ensures { result ≡ center_of key }
 {
     if !is_good(key) {
         return Point::Refused;

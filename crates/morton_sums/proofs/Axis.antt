@@ -2,7 +2,7 @@
 use Rattle.std.proofs.Common.{◌≡◌, ℕ, zero, suc, ◌+◌, ◌-◌, ◌*◌, ◌/◌, ◌%◌, ◌^◌, ◌<◌, sym, refl, ap, ◌∙◌, ap₂, zero-le, le_refl, lt_of_le_of_lt, add-zero, mod-eq_of_lt, add-one, arith, lit<}
 use lib.Pow.{field, mod-mod-pow}
 use lib.Bits.{bit_and, bit_or, and_mod, and_le_r, or_disjoint}
-use Rattle.morton_sums.specs.Interleaved.{thirds, spread, Axis, X, Y, Z, place, width, onAxis, along, interleave}
+use Rattle.morton_sums.specs.Interleaved.{thirds, spread, Axis, X, Y, Z, place, width, on_axis, along, interleave}
 use Rattle.morton_sums.proofs.Digits.{apart-masked, apart-joined}
 use Rattle.morton_sums.proofs.Carry.{own, others, gather, scatter, range, sum-in, complement-word, complement-number}
 
@@ -31,7 +31,7 @@ module _ (r : ℕ) where
 
 -- ---- the axes
 
-gather-axis : (axis : Axis) (word : ℕ) → gather 64 (place axis) word ≡ onAxis axis word
+gather-axis : (axis : Axis) (word : ℕ) → gather 64 (place axis) word ≡ on_axis axis word
 unfolding gather threes
 gather-axis X word = gather-threes 0 (λ w. refl) 21 word ∙ ap (thirds 22) (omega arith)
 gather-axis Y word = gather-threes 2 (λ w. refl) 20 (word / 2)
@@ -49,7 +49,7 @@ range-axis X = refl
 range-axis Y = refl
 range-axis Z = refl
 
-opposite : (axis : Axis) (n b : ℕ) → suc (n + b) ≡ 2 ^ 64 → suc (onAxis axis n + onAxis axis b) ≡ 2 ^ width axis
+opposite : (axis : Axis) (n b : ℕ) → suc (n + b) ≡ 2 ^ 64 → suc (on_axis axis n + on_axis axis b) ≡ 2 ^ width axis
 opposite axis n b h =
     ap₂ (λ (x y : ℕ). suc (x + y)) (sym (gather-axis axis n)) (sym (gather-axis axis b))
     ∙ complement-number 64 (place axis) n b h ∙ range-axis axis
@@ -95,17 +95,17 @@ module _ (axis : Axis) (a b : ℕ) where
   answered : (number : ℕ) → scatter 64 (place axis) number ≡ along axis (number % 2 ^ width axis)
   answered number = scatter-axis axis number ∙ ap (λ (x : ℕ). x * 2 ^ place axis) (sym (spread-mod (width axis) number))
 
-  pub sum-on : bit_and ((bit_or a rest + bit_and b mask) % 2 ^ 64) mask ≡ along axis ((onAxis axis a + onAxis axis b) % 2 ^ width axis)
+  pub sum-on : bit_and ((bit_or a rest + bit_and b mask) % 2 ^ 64) mask ≡ along axis ((on_axis axis a + on_axis axis b) % 2 ^ width axis)
   sum-on =
       masked-wrap (bit_or a rest + bit_and b mask) mask (own-lt axis)
       ∙ ap (λ (x : ℕ). bit_and x mask) (sym (add-zero (bit_or a rest + bit_and b mask)))
       ∙ sum-in 64 (place axis) a b 0 zero-le
       ∙ ap (scatter 64 (place axis)) (add-zero _ ∙ ap₂ (λ (x y : ℕ). x + y) (gather-axis axis a) (gather-axis axis b))
-      ∙ answered (onAxis axis a + onAxis axis b)
+      ∙ answered (on_axis axis a + on_axis axis b)
 
   -- r is the wrapped difference of the words under the mask
   pub difference-on : (r : ℕ) → r < 2 ^ 64 → b < 2 ^ 64 → (r + bit_and b mask) % 2 ^ 64 ≡ bit_and a mask
-      → bit_and r mask ≡ along axis ((onAxis axis a + 2 ^ width axis - onAxis axis b) % 2 ^ width axis)
+      → bit_and r mask ≡ along axis ((on_axis axis a + 2 ^ width axis - on_axis axis b) % 2 ^ width axis)
   difference-on r h l d =
       let n = 2 ^ 64 - 1 - b in
       let whole : suc (n + b) ≡ 2 ^ 64 = omega arith in
@@ -116,8 +116,8 @@ module _ (axis : Axis) (a b : ℕ) where
       ∙ sum-in 64 (place axis) n a 1 (le_refl 1)
       ∙ ap (scatter 64 (place axis))
       (ap₂ (λ (x y : ℕ). x + y + 1) (gather-axis axis n) (gather-axis axis a)
-      ∙ turned (onAxis axis n) (onAxis axis a) (onAxis axis b) (2 ^ width axis) (opposite axis n b whole))
-      ∙ answered (onAxis axis a + 2 ^ width axis - onAxis axis b)
+      ∙ turned (on_axis axis n) (on_axis axis a) (on_axis axis b) (2 ^ width axis) (opposite axis n b whole))
+      ∙ answered (on_axis axis a + 2 ^ width axis - on_axis axis b)
 
 -- ---- the three together
 

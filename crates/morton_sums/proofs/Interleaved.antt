@@ -3,7 +3,7 @@
 use Rattle.std.proofs.Common.{◌≡◌, ℕ, zero, suc, ◌+◌, ◌-◌, ◌*◌, ◌/◌, ◌%◌, ◌^◌, ◌<◌, sym, refl, ap, ◌∙◌, subst, ap₂, zero-lt-suc, pow-suc, arith, pow_pos}
 use native.Mathlib.Nat.{mod-one, mod-mod}
 use lib.Arith.{mod-mul}
-use Rattle.morton_sums.specs.Interleaved.{thirds, spread, Axis, X, Y, Z, place, width, onAxis, interleave, sum_of, differenceOf}
+use Rattle.morton_sums.specs.Interleaved.{thirds, spread, Axis, X, Y, Z, place, width, on_axis, interleave, sum_of, difference_of}
 use Rattle.morton_sums.proofs.Digits.{half, lowest, digit_lt}
 
 -- ---- n groups of three bits, and one more bit of x
@@ -58,22 +58,22 @@ thirds-word axis (suc n) numbers =
     ∙ mod-suc k (numbers axis)
     ∙ ap (λ (m : ℕ). numbers axis % 2 ^ m) (sym (count-suc axis n))
 
-pub onAxis-interleave : (axis : Axis) (numbers : Axis → ℕ) → onAxis axis (interleave numbers) ≡ numbers axis % 2 ^ width axis
-onAxis-interleave X numbers = thirds-word X 21 numbers
-onAxis-interleave Y numbers = thirds-word Y 21 numbers
-onAxis-interleave Z numbers = thirds-word Z 21 numbers
+pub on_axis-interleave : (axis : Axis) (numbers : Axis → ℕ) → on_axis axis (interleave numbers) ≡ numbers axis % 2 ^ width axis
+on_axis-interleave X numbers = thirds-word X 21 numbers
+on_axis-interleave Y numbers = thirds-word Y 21 numbers
+on_axis-interleave Z numbers = thirds-word Z 21 numbers
 
-pub onAxis-sum : (axis : Axis) (a b : ℕ) → onAxis axis (sum_of a b) ≡ (onAxis axis a + onAxis axis b) % 2 ^ width axis
-onAxis-sum axis a b = onAxis-interleave axis (λ x. (onAxis x a + onAxis x b) % 2 ^ width x) ∙ mod-mod (onAxis axis a + onAxis axis b) (2 ^ width axis)
+pub on_axis-sum : (axis : Axis) (a b : ℕ) → on_axis axis (sum_of a b) ≡ (on_axis axis a + on_axis axis b) % 2 ^ width axis
+on_axis-sum axis a b = on_axis-interleave axis (λ x. (on_axis x a + on_axis x b) % 2 ^ width x) ∙ mod-mod (on_axis axis a + on_axis axis b) (2 ^ width axis)
 
-pub onAxis-difference : (axis : Axis) (a b : ℕ) → onAxis axis (differenceOf a b) ≡ (onAxis axis a + 2 ^ width axis - onAxis axis b) % 2 ^ width axis
-onAxis-difference axis a b =
-    onAxis-interleave axis (λ x. (onAxis x a + 2 ^ width x - onAxis x b) % 2 ^ width x) ∙ mod-mod (onAxis axis a + 2 ^ width axis - onAxis axis b) (2 ^ width axis)
+pub on_axis-difference : (axis : Axis) (a b : ℕ) → on_axis axis (difference_of a b) ≡ (on_axis axis a + 2 ^ width axis - on_axis axis b) % 2 ^ width axis
+on_axis-difference axis a b =
+    on_axis-interleave axis (λ x. (on_axis x a + 2 ^ width x - on_axis x b) % 2 ^ width x) ∙ mod-mod (on_axis axis a + 2 ^ width axis - on_axis axis b) (2 ^ width axis)
 
 -- ---- a word is made of its numbers
 
-abbrev numbersOf : ℕ → ℕ → Axis → ℕ
-numbersOf n key axis = thirds (count axis n) (key / 2 ^ place axis)
+abbrev numbers_of : ℕ → ℕ → Axis → ℕ
+numbers_of n key axis = thirds (count axis n) (key / 2 ^ place axis)
 
 swap : (axis : Axis) (key : ℕ) → key / 2 ^ place axis / 8 ≡ key / 8 / 2 ^ place axis
 swap X key = omega arith
@@ -81,16 +81,16 @@ swap Y key = omega arith
 swap Z key = omega arith
 
 module _ (n key : ℕ) (axis : Axis) where
-  unrolled : numbersOf (suc n) key axis ≡ thirds (count axis n) (key / 2 ^ place axis / 8) * 2 + key / 2 ^ place axis % 2
+  unrolled : numbers_of (suc n) key axis ≡ thirds (count axis n) (key / 2 ^ place axis / 8) * 2 + key / 2 ^ place axis % 2
   unfolding thirds
   unrolled = ap (λ (m : ℕ). thirds m (key / 2 ^ place axis)) (count-suc axis n)
 
-  numbers-half : numbersOf (suc n) key axis / 2 ≡ numbersOf n (key / 8) axis
+  numbers-half : numbers_of (suc n) key axis / 2 ≡ numbers_of n (key / 8) axis
   numbers-half =
       ap (λ (x : ℕ). x / 2) unrolled ∙ half (thirds (count axis n) (key / 2 ^ place axis / 8)) (digit_lt (key / 2 ^ place axis))
       ∙ ap (thirds (count axis n)) (swap axis key)
 
-  numbers-lowest : numbersOf (suc n) key axis % 2 ≡ key / 2 ^ place axis % 2
+  numbers-lowest : numbers_of (suc n) key axis % 2 ≡ key / 2 ^ place axis % 2
   numbers-lowest = ap (λ (x : ℕ). x % 2) unrolled ∙ lowest (thirds (count axis n) (key / 2 ^ place axis / 8)) (digit_lt (key / 2 ^ place axis))
 
 fourth : (key : ℕ) → key / 2 / 2 ≡ key / 4
@@ -103,18 +103,18 @@ eighth key = omega arith
 grouped : (key : ℕ) → key / 8 * 8 + group (λ axis. key / 2 ^ place axis % 2) ≡ key
 grouped key = omega (arith, fourth key, eighth key)
 
-word-numbers : (n key : ℕ) → key < 2 * 8 ^ n → word n (numbersOf n key) ≡ key
+word-numbers : (n key : ℕ) → key < 2 * 8 ^ n → word n (numbers_of n key) ≡ key
 unfolding spread thirds
 word-numbers zero key h = omega arith
 word-numbers (suc n) key h =
-    word-suc n (numbersOf (suc n) key)
-    ∙ ap (λ (f : Axis → ℕ). word n f * 8 + group (λ axis. numbersOf (suc n) key axis % 2)) (λ i axis. numbers-half n key axis i)
-    ∙ ap (λ (f : Axis → ℕ). word n (numbersOf n (key / 8)) * 8 + group f) (λ i axis. numbers-lowest n key axis i)
+    word-suc n (numbers_of (suc n) key)
+    ∙ ap (λ (f : Axis → ℕ). word n f * 8 + group (λ axis. numbers_of (suc n) key axis % 2)) (λ i axis. numbers-half n key axis i)
+    ∙ ap (λ (f : Axis → ℕ). word n (numbers_of n (key / 8)) * 8 + group f) (λ i axis. numbers-lowest n key axis i)
     ∙ ap (λ (x : ℕ). x * 8 + group (λ axis. key / 2 ^ place axis % 2)) (word-numbers n (key / 8) (less (8 ^ n) (subst (λ (x : ℕ). key < 2 * x) (pow-suc 8 n) h)))
     ∙ grouped key
   where
     less : (p : ℕ) → key < 2 * (p * 8) → key / 8 < 2 * p
     less p l = omega arith
 
-pub interleave-onAxis : (key : ℕ) → key < 2 ^ 64 → interleave (λ axis. onAxis axis key) ≡ key
-interleave-onAxis key h = word-numbers 21 key h
+pub interleave-on_axis : (key : ℕ) → key < 2 ^ 64 → interleave (λ axis. on_axis axis key) ≡ key
+interleave-on_axis key h = word-numbers 21 key h

@@ -1,5 +1,5 @@
 -- The three numbers that are interleaved in a word, and the sum and difference of two words by them: document 01, "Morton keys".
--- That each is the number on its axis of the result is `onAxis-interleave` of proofs/Interleaved.antt.
+-- That each is the number on its axis of the result is `on_axis-interleave` of proofs/Interleaved.antt.
 use Rattle.std.specs.Prelude.{ℕ, zero, suc, ◌+◌, ◌-◌, ◌*◌, ◌/◌, ◌%◌, ◌^◌}
 
 -- n bits of a word, every third one from the lowest on, as a number
@@ -27,8 +27,8 @@ width Y = 21
 width Z = 21
 
 -- the number on an axis of a word
-abbrev pub onAxis : Axis → ℕ → ℕ
-onAxis axis word = thirds (width axis) (word / 2 ^ place axis)
+abbrev pub on_axis : Axis → ℕ → ℕ
+on_axis axis word = thirds (width axis) (word / 2 ^ place axis)
 
 -- a number in the bits of an axis, and a word of three
 abbrev pub along : Axis → ℕ → ℕ
@@ -39,7 +39,7 @@ interleave numbers = along Z (numbers Z) + along Y (numbers Y) + along X (number
 
 -- on each axis, modulo 2 to its width
 abbrev pub sum_of : ℕ → ℕ → ℕ
-sum_of a b = interleave (λ axis. (onAxis axis a + onAxis axis b) % 2 ^ width axis)
+sum_of a b = interleave (λ axis. (on_axis axis a + on_axis axis b) % 2 ^ width axis)
 
-abbrev pub differenceOf : ℕ → ℕ → ℕ
-differenceOf a b = interleave (λ axis. (onAxis axis a + 2 ^ width axis - onAxis axis b) % 2 ^ width axis)
+abbrev pub difference_of : ℕ → ℕ → ℕ
+difference_of a b = interleave (λ axis. (on_axis axis a + 2 ^ width axis - on_axis axis b) % 2 ^ width axis)

@@ -1,7 +1,7 @@
 // The sum and the difference of words with interleaved coordinates: `Add` and `Sub` of morton.rs. Any
 // word is taken, and each axis wraps in its own bits.
 ghost use Rattle.std.specs.Prelude.{◌≡◌};
-ghost use Rattle.morton_sums.specs.Interleaved.{sum_of, differenceOf};
+ghost use Rattle.morton_sums.specs.Interleaved.{sum_of, difference_of};
 
 const DILATE_TZ: u64 = 0x4924_9249_2492_4924; // bits 2, 5, .., 62
 
@@ -27,7 +27,7 @@ pub fn sum(a: u64, b: u64) -> u64
 
 // The difference on each axis. Where the bits of other axes are all clear, a borrow passes over them.
 pub fn difference(a: u64, b: u64) -> u64
-    ensures { result ≡ differenceOf a b }
+    ensures { result ≡ difference_of a b }
 {
     let z = std::num::wrapping_sub_u64(a & DILATE_TZ, b & DILATE_TZ) & DILATE_TZ;
     let y = std::num::wrapping_sub_u64(a & DILATE_TY, b & DILATE_TY) & DILATE_TY;

@@ -7,16 +7,16 @@ use Prim.Native.Nat.{ℕ}
 use lib.IntN.{pos}
 use lib.ListN.{replicate, set}
 use lib.Ieee.{Float, nan, fin, le, of_bits}
-use Rattle.marching_cubes_tables.specs.Tables.{corners, edgeConnection, triangleConnection}
-use Rattle.marching_cubes_tables.specs.Rule.{rowEdges}
+use Rattle.marching_cubes_tables.specs.Tables.{corners, edge_connection, triangle_connection}
+use Rattle.marching_cubes_tables.specs.Rule.{row_edges}
 use Rattle.marching_cubes_impl.specs.Sample.{one, inside, good}
-use Rattle.walk.specs.Walk.{signs, cellEdges, times, cell, cells, rows, walk}
-use Rattle.walk.specs.Edges.{axisOf, lowOffset, edge_of, same}
-use Rattle.walk.specs.Cache.{fresh, stored, putColumn, getColumn, inLayer, put, found, get, advanceCell, advanceRow, advanceLayer}
+use Rattle.walk.specs.Walk.{signs, cell_edges, times, cell, cells, rows, walk}
+use Rattle.walk.specs.Edges.{axis_of, low_offset, edge_of, same}
+use Rattle.walk.specs.Cache.{fresh, stored, put_column, get_column, in_layer, put, found, get, advance_cell, advance_row, advance_layer}
 use Rattle.walk.specs.Numbering.{choose, hooks, mesh, number, joined, crate}
-use Rattle.sample_check.specs.Samples.{lowestBad}
+use Rattle.sample_check.specs.Samples.{lowest_bad}
 use Rattle.outcome.specs.declared.Answer.{Answer}
-use Rattle.outcome.specs.Outcome.{surfaceOf, filled, outcome}
+use Rattle.outcome.specs.Outcome.{surface_of, filled, outcome}
 
 -- a call: size, numbering, samples, words of working memory, and room for floats and for indices
 data Call : Type 0 where
@@ -64,5 +64,5 @@ cases : map answer (
     answered 0 0 3 3 ∷
     answered 0 0 3 3 ∷
     []
-unfolding outcome filled surfaceOf lowestBad good inside le of_bits mesh walk rows cells cell times signs cellEdges rowEdges triangleConnection corners edgeConnection hooks choose joined crate number same edge_of axisOf lowOffset fresh stored putColumn getColumn inLayer put found get advanceCell advanceRow advanceLayer
+unfolding outcome filled surface_of lowest_bad good inside le of_bits mesh walk rows cells cell times signs cell_edges row_edges triangle_connection corners edge_connection hooks choose joined crate number same edge_of axis_of low_offset fresh stored put_column get_column in_layer put found get advance_cell advance_row advance_layer
 cases = refl

@@ -4,8 +4,8 @@ use Rattle.std.specs.Prelude.{Bool, cond, not, ◌||◌, List, [], ◌∷◌, �
 use Rattle.walk.specs.Walk.{Visit}
 use Rattle.walk.specs.Cache.{fresh}
 use Rattle.walk.specs.Numbering.{Mesh, mesh, joined, crate}
-use Rattle.sample_check.specs.Samples.{lowestBad}
-use Rattle.lent_mesh.specs.Grid.{insideOf, positionAt, floatsOf}
+use Rattle.sample_check.specs.Samples.{lowest_bad}
+use Rattle.lent_mesh.specs.Grid.{inside_of, position_at, floats_of}
 use Rattle.outcome.specs.declared.Answer.{Answer}
 
 -- everything that the call leaves
@@ -19,8 +19,8 @@ abbrev pub left : Answer → List ℕ → List Float → List ℕ → Outcome
 left answer work vertices indices = record { answer = answer; work = work; vertices = vertices; indices = indices }
 
 -- the words of working memory that a size asks for
-abbrev pub workRoom : ℕ → ℕ
-workRoom n = 8 * (n * n) + 6 * n
+abbrev pub work_room : ℕ → ℕ
+work_room n = 8 * (n * n) + 6 * n
 
 -- the visits that made the vertices, and the indices
 pub record Surface : Type 0 where
@@ -31,9 +31,9 @@ abbrev pub surface : {C : Type 0} → Mesh C → Surface
 surface m = record { made = m.made; indices = m.indices }
 
 -- of a grid of n layers of cells, in the crate numbering or in the joined
-unfoldable pub surfaceOf : ℕ → ℕ → List Float → Surface
-surfaceOf n numbering samples =
-    cond (eqb numbering 0) (surface (mesh (crate n) fresh (insideOf n samples) n n)) (surface (mesh joined [] (insideOf n samples) n n))
+unfoldable pub surface_of : ℕ → ℕ → List Float → Surface
+surface_of n numbering samples =
+    cond (eqb numbering 0) (surface (mesh (crate n) fresh (inside_of n samples) n n)) (surface (mesh joined [] (inside_of n samples) n n))
 
 -- written from the start, the rest unchanged
 abbrev pub over : {A : Type 0} → List A → List A → List A
@@ -50,7 +50,7 @@ module _ (n numbering : ℕ) (samples : List Float) (work : List ℕ) (vertices 
   meshed cause s floats list =
       record {
         answer = record { cause = cause; place = 0; vertices = length s.made; indices = length s.indices };
-        work = over (replicate (workRoom n) 0) work;
+        work = over (replicate (work_room n) 0) work;
         vertices = floats;
         indices = list;
       }
@@ -60,7 +60,7 @@ module _ (n numbering : ℕ) (samples : List Float) (work : List ℕ) (vertices 
   filled s =
       cond (ltb (length vertices) (3 * length s.made)) (meshed 6 s vertices indices)
       (cond (ltb (length indices) (length s.indices)) (meshed 7 s vertices indices)
-      (meshed 0 s (over (floatsOf (map (positionAt n samples) s.made)) vertices) (over s.indices indices)))
+      (meshed 0 s (over (floats_of (map (position_at n samples) s.made)) vertices) (over s.indices indices)))
 
   -- the causes in order, each given where no earlier one is
   unfoldable pub outcome : Outcome
@@ -68,6 +68,6 @@ module _ (n numbering : ℕ) (samples : List Float) (work : List ℕ) (vertices 
       cond (ltb n 2 || ltb 128 n) (refused 1 0)
       (cond (ltb 1 numbering) (refused 2 0)
       (cond (not (eqb (length samples) (n * n * (n + 1)))) (refused 3 0)
-      (cond (ltb (length work) (workRoom n)) (refused 4 0)
-      (cond (ltb (lowestBad samples) (length samples)) (refused 5 (lowestBad samples))
-      (filled (surfaceOf n numbering samples))))))
+      (cond (ltb (length work) (work_room n)) (refused 4 0)
+      (cond (ltb (lowest_bad samples) (length samples)) (refused 5 (lowest_bad samples))
+      (filled (surface_of n numbering samples))))))

@@ -5,12 +5,12 @@ use Rattle.marching_cubes_tables.specs.Tables.{flat}
 use Rattle.walk.specs.Ownership.{owned}
 
 -- the class of a cell says by its bits whether x, y and z are 0
-abbrev pub ownedIn : ℕ → ℕ → Bool
-ownedIn class = owned (eqb (class % 2) 1) (eqb (class / 2 % 2) 1) (eqb (class / 4) 1)
+abbrev pub owned_in : ℕ → ℕ → Bool
+owned_in class = owned (eqb (class % 2) 1) (eqb (class / 2 % 2) 1) (eqb (class / 4) 1)
 
 -- by sign byte the row's edges, four bits each from the lowest, and the number of triangles in the highest four
-unfoldable pub rowWords : List ℕ
-rowWords =
+unfoldable pub row_words : List ℕ
+row_words =
     0x0 ∷ 0x1000000000000380 ∷ 0x1000000000000910 ∷ 0x2000000000189381 ∷
     0x1000000000000A21 ∷ 0x2000000000A21380 ∷ 0x2000000000920A29 ∷ 0x300000089A8A2382 ∷
     0x10000000000002B3 ∷ 0x20000000000B82B0 ∷ 0x2000000000B32091 ∷ 0x3000000B89B912B1 ∷
@@ -79,8 +79,8 @@ rowWords =
 
 -- by class and sign byte the row's new edges, their number in the highest four bits, and the row's number of triangles in the four below; in class 0
 -- the marks of the edges 5, 6 and 10 too
-unfoldable pub newWordsByClass : List (List ℕ)
-newWordsByClass =
+unfoldable pub new_words_by_class : List (List ℕ)
+new_words_by_class =
     (
     0x0 ∷ 0x0100000000000000 ∷ 0x0100000000000000 ∷ 0x0200000000000000 ∷
     0x110000000100000A ∷ 0x120000000100000A ∷ 0x120000000100000A ∷ 0x130000000100000A ∷
@@ -612,5 +612,5 @@ newWordsByClass =
     []
 
 -- class k and sign byte s at 256 * k + s
-unfoldable pub newWords : List ℕ
-newWords = flat newWordsByClass
+unfoldable pub new_words : List ℕ
+new_words = flat new_words_by_class

@@ -1,7 +1,7 @@
 -- What a regular cell of the crate numbering makes, in one word for each row: a cell is regular where it finds each edge that its row names but those of
 -- `unfound`. What the words hold is proved in `proofs/RegularWords.antt` by one test over the table, so nobody need believe them.
 use Rattle.std.specs.Prelude.{Bool, true, false, cond, List, [], ◌∷◌, map, ℕ, ◌+◌, ◌*◌, ◌/◌, ◌%◌, ◌^◌, eqb, get_or}
-use Rattle.marching_cubes_tables.specs.Tables.{triangleConnection}
+use Rattle.marching_cubes_tables.specs.Tables.{triangle_connection}
 use Rattle.marching_cubes_tables.specs.Rule.{named, bit_at}
 use Rattle.walk.specs.Walk.{bit}
 
@@ -18,16 +18,16 @@ names word e = eqb (bit_at word e) 1
 abbrev pub rank_of : ℕ → ℕ → ℕ
 rank_of word e = word / 2 ^ (16 + 4 * e) % 16
 
-abbrev pub newCount : ℕ → ℕ
-newCount word = word / 2 ^ 12 % 16
+abbrev pub new_count : ℕ → ℕ
+new_count word = word / 2 ^ 12 % 16
 
 -- an edge of the row is noted where it is first named
 abbrev noted : ℕ → ℕ → ℕ
-noted e word = cond (names word e) word (word + 2 ^ e + bit (unfound e) * (newCount word * 2 ^ (16 + 4 * e) + 2 ^ 12))
+noted e word = cond (names word e) word (word + 2 ^ e + bit (unfound e) * (new_count word * 2 ^ (16 + 4 * e) + 2 ^ 12))
 
-abbrev regularWord : ℕ → List ℕ → ℕ
-regularWord word [] = word
-regularWord word (e ∷ es) = regularWord (noted e word) es
+abbrev regular_word : ℕ → List ℕ → ℕ
+regular_word word [] = word
+regular_word word (e ∷ es) = regular_word (noted e word) es
 
-unfoldable pub regularWords : List ℕ
-regularWords = map (λ r. regularWord 0 (named r)) triangleConnection
+unfoldable pub regular_words : List ℕ
+regular_words = map (λ r. regular_word 0 (named r)) triangle_connection

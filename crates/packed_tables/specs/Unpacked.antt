@@ -17,8 +17,8 @@ marked e zero = []
 marked e (suc rank) = (e + 16 * rank) ∷ []
 
 -- the marks of the edges that an inner cell can own, four bits each from bit 16 on: two in the upper plane, and one along z
-abbrev pub upperMarked : ℕ → List ℕ
-upperMarked word = marked 5 (word / 2 ^ 16 % 16) ++ marked 6 (word / 2 ^ 20 % 16)
+abbrev pub upper_marked : ℕ → List ℕ
+upper_marked word = marked 5 (word / 2 ^ 16 % 16) ++ marked 6 (word / 2 ^ 20 % 16)
 
-abbrev pub innerMarked : ℕ → List ℕ
-innerMarked word = upperMarked word ++ marked 10 (word / 2 ^ 24 % 16)
+abbrev pub inner_marked : ℕ → List ℕ
+inner_marked word = upper_marked word ++ marked 10 (word / 2 ^ 24 % 16)

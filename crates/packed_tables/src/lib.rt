@@ -5,23 +5,23 @@ mod regulars;
 mod rows;
 
 ghost use Rattle.std.specs.Prelude.{◌≡◌};
-ghost use Rattle.packed_tables.specs.Packed.{rowWords, newWords};
-ghost use Rattle.packed_tables.specs.Regular.{regularWords};
+ghost use Rattle.packed_tables.specs.Packed.{row_words, new_words};
+ghost use Rattle.packed_tables.specs.Regular.{regular_words};
 
 pub fn row_words() -> [u64; 256]
-    ensures { result ≡ rowWords }
+    ensures { result ≡ row_words }
 {
     rows::ROW_WORDS
 }
 
 pub fn new_words() -> [u64; 2048]
-    ensures { result ≡ newWords }
+    ensures { result ≡ new_words }
 {
     news::NEW_WORDS
 }
 
 pub fn regular_words() -> [u64; 256]
-    ensures { result ≡ regularWords }
+    ensures { result ≡ regular_words }
 {
     regulars::REGULAR_WORDS
 }

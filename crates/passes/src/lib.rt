@@ -2,10 +2,10 @@
 // size asks for zero.
 ghost use Rattle.std.specs.Prelude.{◌≡◌, cond, map, ℕ, ◌+◌, ◌*◌, ◌≤◌, ◌<◌, eqb, length, get_or, replicate};
 ghost use Rattle.walk.specs.Walk.{visits};
-ghost use Rattle.lent_mesh.specs.Grid.{insideOf, positionAt, floatsOf};
+ghost use Rattle.lent_mesh.specs.Grid.{inside_of, position_at, floats_of};
 ghost use Rattle.grid_walk.specs.Growth.{GrowsWithin};
-ghost use Rattle.held_bits.specs.HeldCell.{heldRoom};
-ghost use Rattle.outcome.specs.Outcome.{workRoom, surfaceOf, over};
+ghost use Rattle.held_bits.specs.HeldCell.{held_room};
+ghost use Rattle.outcome.specs.Outcome.{work_room, surface_of, over};
 ghost use Rattle.passes.specs.Accepted.{Accepted};
 
 use grid_count::Reach;
@@ -26,7 +26,7 @@ fn clear(work: &mut [u32], count: usize)
 // The words of working memory that a size asks for.
 pub fn work_room(n: usize) -> usize
     requires { n ≤ 128 }
-    ensures { result ≡ workRoom n }
+    ensures { result ≡ work_room n }
 {
     8 * (n * n) + 6 * n
 }
@@ -34,15 +34,15 @@ pub fn work_room(n: usize) -> usize
 // The words in which the crate numbering's count keeps the edges that are held.
 fn held_room(n: usize) -> usize
     requires { n ≤ 128 }
-    ensures { result ≡ heldRoom n }
+    ensures { result ≡ held_room n }
 {
     2 * (n * n) + 2 * n
 }
 
 // The crate numbering is counted from nothing held; the joined uses no working memory for its count.
 fn hold_nothing(numbering: u32, work: &mut [u32], n: usize)
-    requires { (n ≤ 128) × (heldRoom n ≤ length work.old) }
-    ensures { work.new ≡ cond (eqb numbering 0) (over (replicate (heldRoom n) 0) work.old) work.old }
+    requires { (n ≤ 128) × (held_room n ≤ length work.old) }
+    ensures { work.new ≡ cond (eqb numbering 0) (over (replicate (held_room n) 0) work.old) work.old }
 {
     if numbering == 0 {
         clear(work, held_room(n));
@@ -53,9 +53,9 @@ fn hold_nothing(numbering: u32, work: &mut [u32], n: usize)
 // the size asks for is zero afterwards, whatever it held.
 pub fn count(numbering: u32, samples: &[f32], n: usize, work: &mut [u32]) -> Reach
     requires { Accepted n samples.now work.old }
-    ensures work_after { work.new ≡ over (replicate (workRoom n) 0) work.old }
-    ensures made_value { (result.counts.made ≡ length (surfaceOf n numbering samples.now).made) × (result.counts.written ≡ length (surfaceOf n numbering samples.now).indices) }
-    ensures grows_within { GrowsWithin (λ k. length (visits (insideOf n samples.now) n k)) n result.span }
+    ensures work_after { work.new ≡ over (replicate (work_room n) 0) work.old }
+    ensures made_value { (result.counts.made ≡ length (surface_of n numbering samples.now).made) × (result.counts.written ≡ length (surface_of n numbering samples.now).indices) }
+    ensures grows_within { GrowsWithin (λ k. length (visits (inside_of n samples.now) n k)) n result.span }
     ensures written_bound { (result.counts.written ≤ 31211520) × (result.counts.made ≤ result.counts.written) }
 {
     let room = work_room(n);
@@ -76,12 +76,12 @@ pub fn fill(
     vertices: &mut [f32],
     indices: &mut [u32],
 )
-    requires accepted { Accepted n samples.now work.old × ((i : ℕ) → i < workRoom n → get_or work.old i 0 ≡ 0) }
-    requires grows_within { GrowsWithin (λ k. length (visits (insideOf n samples.now) n k)) n span }
-    requires samples_in_bounds { (3 * length (surfaceOf n numbering samples.now).made ≤ length vertices.old) × (length (surfaceOf n numbering samples.now).indices ≤ length indices.old) }
-    ensures work_after { work.new ≡ over (replicate (workRoom n) 0) work.old }
-    ensures vertices_after { vertices.new ≡ over (floatsOf (map (positionAt n samples.now) (surfaceOf n numbering samples.now).made)) vertices.old }
-    ensures indices_after { indices.new ≡ over (surfaceOf n numbering samples.now).indices indices.old }
+    requires accepted { Accepted n samples.now work.old × ((i : ℕ) → i < work_room n → get_or work.old i 0 ≡ 0) }
+    requires grows_within { GrowsWithin (λ k. length (visits (inside_of n samples.now) n k)) n span }
+    requires samples_in_bounds { (3 * length (surface_of n numbering samples.now).made ≤ length vertices.old) × (length (surface_of n numbering samples.now).indices ≤ length indices.old) }
+    ensures work_after { work.new ≡ over (replicate (work_room n) 0) work.old }
+    ensures vertices_after { vertices.new ≡ over (floats_of (map (position_at n samples.now) (surface_of n numbering samples.now).made)) vertices.old }
+    ensures indices_after { indices.new ≡ over (surface_of n numbering samples.now).indices indices.old }
 {
     let room = work_room(n);
     grid_walk::walk(numbering, samples, n, span, work, vertices, indices);

@@ -12,12 +12,12 @@ use lib.Ieee.Fits.{down_pos}
 use lib.Ieee.Positive.{first_pos}
 use lib.Ieee.Scale.{finite}
 use Rattle.rounding.proofs.Nearness.{Apart, Near, apart-times, apart-cancel, near_times, near-cancel}
-use Rattle.rounding.proofs.Units.{unitsOfOne, HasUnits, one-pos}
+use Rattle.rounding.proofs.Units.{units_of_one, HasUnits, one-pos}
 use Rattle.rounding.proofs.Signs.{finite-of-units}
 use Rattle.marching_cubes_impl.specs.Sample.{one}
 use Rattle.marching_cubes_impl.specs.Edge.{offset_of}
-use Rattle.positions.specs.Position.{step_of, cornerOf, coordinateOf}
-use Rattle.positions.specs.Crossing.{Fraction, size_of, exactCrossing, finitePlus, fineness, Within, Crossed, Beside}
+use Rattle.positions.specs.Position.{step_of, corner_of, coordinate_of}
+use Rattle.positions.specs.Crossing.{Fraction, size_of, exact_crossing, finite_plus, fineness, Within, Crossed, Beside}
 use Rattle.positions.proofs.Offset.{CrossingOffset, crossing-offset, delta-finite, offset-finite}
 use Rattle.positions.proofs.Corners.{CornerUnits, corner-units, corner-upto, step-finite, corner-finite}
 use Rattle.positions.proofs.Interpolation.{BetweenUnits, between-units}
@@ -76,7 +76,7 @@ whole-error l N S r c m z some more first second third =
 
 -- ---- from units to the fractions of the definition
 
-size-units : (x : Float) (s : Bool) (u : ℕ) → HasUnits x s u → (size_of x).top * unitsOfOne ≡ u * (size_of x).bottom
+size-units : (x : Float) (s : Bool) (u : ℕ) → HasUnits x s u → (size_of x).top * units_of_one ≡ u * (size_of x).bottom
 size-units nan s u h = absurd h
 size-units (inf t) s u h = absurd h
 size-units (fin t m e) s u h = h.1
@@ -86,60 +86,60 @@ bottom-pos nan = lit< tt
 bottom-pos (inf s) = lit< tt
 bottom-pos (fin s m e) = down_pos e
 
-finitePlus-units : (x : Float) (u : ℕ) → HasUnits x false u → T (finitePlus x)
-finitePlus-units nan u h = absurd h
-finitePlus-units (inf t) u h = absurd h
-finitePlus-units (fin true m e) u h = absurd (true≢false h.0)
-finitePlus-units (fin false m e) u h = tt
+finite_plus-units : (x : Float) (u : ℕ) → HasUnits x false u → T (finite_plus x)
+finite_plus-units nan u h = absurd h
+finite_plus-units (inf t) u h = absurd h
+finite_plus-units (fin true m e) u h = absurd (true≢false h.0)
+finite_plus-units (fin false m e) u h = tt
 
 -- in units the exact crossing is (j * B + k * A) / ((n - 1) * (A + B)), both times the common denominator of the samples' sizes
 module _ (n j k : ℕ) (a b : Float) (s t : Bool) (A B : ℕ) (ha : HasUnits a s A) (hb : HasUnits b t B) where
-  first-shared : (size_of a).top * (size_of b).bottom * unitsOfOne ≡ A * ((size_of a).bottom * (size_of b).bottom)
+  first-shared : (size_of a).top * (size_of b).bottom * units_of_one ≡ A * ((size_of a).bottom * (size_of b).bottom)
   first-shared =
       let d = (size_of b).bottom in
-      let p : (size_of a).top * unitsOfOne * d ≡ A * (size_of a).bottom * d = ap (λ (z : ℕ). z * d) (size-units a s A ha) in
+      let p : (size_of a).top * units_of_one * d ≡ A * (size_of a).bottom * d = ap (λ (z : ℕ). z * d) (size-units a s A ha) in
       omega arith
 
-  second-shared : (size_of b).top * (size_of a).bottom * unitsOfOne ≡ B * ((size_of a).bottom * (size_of b).bottom)
+  second-shared : (size_of b).top * (size_of a).bottom * units_of_one ≡ B * ((size_of a).bottom * (size_of b).bottom)
   second-shared =
       let d = (size_of a).bottom in
-      let p : (size_of b).top * unitsOfOne * d ≡ B * (size_of b).bottom * d = ap (λ (z : ℕ). z * d) (size-units b t B hb) in
+      let p : (size_of b).top * units_of_one * d ≡ B * (size_of b).bottom * d = ap (λ (z : ℕ). z * d) (size-units b t B hb) in
       omega arith
 
-  crossing-top : (exactCrossing n j k a b).top * unitsOfOne ≡ (j * B + k * A) * ((size_of a).bottom * (size_of b).bottom)
-  unfolding exactCrossing
+  crossing-top : (exact_crossing n j k a b).top * units_of_one ≡ (j * B + k * A) * ((size_of a).bottom * (size_of b).bottom)
+  unfolding exact_crossing
   crossing-top =
       let p = ap (λ (z : ℕ). j * z) second-shared in
       let q = ap (λ (z : ℕ). k * z) first-shared in
       omega arith
 
-  crossing-bottom : (exactCrossing n j k a b).bottom * unitsOfOne ≡ (n - 1) * (A + B) * ((size_of a).bottom * (size_of b).bottom)
-  unfolding exactCrossing
+  crossing-bottom : (exact_crossing n j k a b).bottom * units_of_one ≡ (n - 1) * (A + B) * ((size_of a).bottom * (size_of b).bottom)
+  unfolding exact_crossing
   crossing-bottom =
       let p = ap (λ (z : ℕ). (n - 1) * z) second-shared in
       let q = ap (λ (z : ℕ). (n - 1) * z) first-shared in
       omega arith
 
 -- the bound in units, r against z / s, is the bound on the fractions x / dx against p / q; both halves, times 1.0 squared
-module _ (x dx p q r z s d : ℕ) (hx : x * unitsOfOne ≡ r * dx) (hp : p * unitsOfOne ≡ z * d) (hq : q * unitsOfOne ≡ s * d) where
-  value-shared : x * q * (unitsOfOne * unitsOfOne) ≡ r * s * (dx * d)
+module _ (x dx p q r z s d : ℕ) (hx : x * units_of_one ≡ r * dx) (hp : p * units_of_one ≡ z * d) (hq : q * units_of_one ≡ s * d) where
+  value-shared : x * q * (units_of_one * units_of_one) ≡ r * s * (dx * d)
   value-shared =
-      let a : x * unitsOfOne * (q * unitsOfOne) ≡ r * dx * (q * unitsOfOne) = ap (λ (w : ℕ). w * (q * unitsOfOne)) hx in
-      let b : r * dx * (q * unitsOfOne) ≡ r * dx * (s * d) = ap (λ (w : ℕ). r * dx * w) hq in
+      let a : x * units_of_one * (q * units_of_one) ≡ r * dx * (q * units_of_one) = ap (λ (w : ℕ). w * (q * units_of_one)) hx in
+      let b : r * dx * (q * units_of_one) ≡ r * dx * (s * d) = ap (λ (w : ℕ). r * dx * w) hq in
       omega arith
 
-  crossing-shared : p * dx * (unitsOfOne * unitsOfOne) ≡ z * unitsOfOne * (dx * d)
-  crossing-shared = let a = ap (λ (w : ℕ). w * (dx * unitsOfOne)) hp in omega arith
+  crossing-shared : p * dx * (units_of_one * units_of_one) ≡ z * units_of_one * (dx * d)
+  crossing-shared = let a = ap (λ (w : ℕ). w * (dx * units_of_one)) hp in omega arith
 
-  error-shared : q * dx * (unitsOfOne * unitsOfOne) ≡ s * unitsOfOne * (dx * d)
-  error-shared = let a = ap (λ (w : ℕ). w * (dx * unitsOfOne)) hq in omega arith
+  error-shared : q * dx * (units_of_one * units_of_one) ≡ s * units_of_one * (dx * d)
+  error-shared = let a = ap (λ (w : ℕ). w * (dx * units_of_one)) hq in omega arith
 
-  fractions-apart : Apart (r * s * fineness) (z * unitsOfOne * fineness) (s * unitsOfOne) → Apart (x * q * fineness) (p * dx * fineness) (q * dx)
+  fractions-apart : Apart (r * s * fineness) (z * units_of_one * fineness) (s * units_of_one) → Apart (x * q * fineness) (p * dx * fineness) (q * dx)
   fractions-apart near =
-      let l = unitsOfOne * unitsOfOne in
-      let scaled = apart-times (r * s * fineness) (z * unitsOfOne * fineness) (s * unitsOfOne) (dx * d) near in
+      let l = units_of_one * units_of_one in
+      let scaled = apart-times (r * s * fineness) (z * units_of_one * fineness) (s * units_of_one) (dx * d) near in
       apart-cancel (x * q * fineness) (p * dx * fineness) (q * dx) l (mul-pos one-pos one-pos)
-      (joined (x * q) (p * dx) (q * dx) l (r * s) (z * unitsOfOne) (s * unitsOfOne) (dx * d) value-shared crossing-shared error-shared scaled)
+      (joined (x * q) (p * dx) (q * dx) l (r * s) (z * units_of_one) (s * units_of_one) (dx * d) value-shared crossing-shared error-shared scaled)
     where
       joined : (x p q l r z s d : ℕ) → x * l ≡ r * d → p * l ≡ z * d → q * l ≡ s * d
           → Apart (r * fineness * d) (z * fineness * d) (s * d)
@@ -147,15 +147,15 @@ module _ (x dx p q r z s d : ℕ) (hx : x * unitsOfOne ≡ r * dx) (hp : p * uni
       joined x p q l r z s d hx hp hq near = omega arith
 
 within-of-units : (x : Float) (c : Fraction) (r z s d : ℕ) → 0 < s → 0 < d → HasUnits x false r
-    → c.top * unitsOfOne ≡ z * d
-    → c.bottom * unitsOfOne ≡ s * d
-    → Apart (r * s * fineness) (z * unitsOfOne * fineness) (s * unitsOfOne)
+    → c.top * units_of_one ≡ z * d
+    → c.bottom * units_of_one ≡ s * d
+    → Apart (r * s * fineness) (z * units_of_one * fineness) (s * units_of_one)
     → Within x c
 within-of-units x c r z s d some more h hp hq near =
     let apart = fractions-apart (size_of x).top (size_of x).bottom c.top c.bottom r z s d (size-units x false r h) hp hq near in
     record {
-      fraction = first_pos c.bottom unitsOfOne (subst (λ (w : ℕ). 0 < w) (sym hq) (mul-pos some more));
-      number = finitePlus-units x r h;
+      fraction = first_pos c.bottom units_of_one (subst (λ (w : ℕ). 0 < w) (sym hq) (mul-pos some more));
+      number = finite_plus-units x r h;
       not-above = (let above = apart.0 in omega arith);
       not-below = (let below = apart.1 in omega arith);
     }
@@ -165,14 +165,14 @@ within-of-units x c r z s d some more h hp hq near =
 -- no operation on the way to a coordinate overflows or gives a NaN
 pub record OperationsFinite (n j k : ℕ) (a b : Float) : Type 0 where
   pub step : T (finite (step_of n))
-  pub first-corner : T (finite (cornerOf j (step_of n)))
-  pub second-corner : T (finite (cornerOf k (step_of n)))
+  pub first-corner : T (finite (corner_of j (step_of n)))
+  pub second-corner : T (finite (corner_of k (step_of n)))
   pub delta : T (finite (sub binary32 b a))
   pub offset : T (finite (offset_of a b))
   pub rest : T (finite (sub binary32 one (offset_of a b)))
-  pub first-product : T (finite (mul binary32 (cornerOf j (step_of n)) (sub binary32 one (offset_of a b))))
-  pub second-product : T (finite (mul binary32 (cornerOf k (step_of n)) (offset_of a b)))
-  pub sum : T (finite (coordinateOf n j k a b))
+  pub first-product : T (finite (mul binary32 (corner_of j (step_of n)) (sub binary32 one (offset_of a b))))
+  pub second-product : T (finite (mul binary32 (corner_of k (step_of n)) (offset_of a b)))
+  pub sum : T (finite (coordinate_of n j k a b))
 
 module _ (n j k : ℕ) (a b : Float) (least : 2 ≤ n) (most : n ≤ 512) (first-last : j ≤ n) (second-last : k ≤ n) (e : Crossed a b) where
   offset : CrossingOffset a b
@@ -185,9 +185,9 @@ module _ (n j k : ℕ) (a b : Float) (least : 2 ≤ n) (most : n ≤ 512) (first
   B = offset.second.units
 
   abbrev rest : ℕ
-  rest = unitsOfOne - offset.units
+  rest = units_of_one - offset.units
 
-  shared-out : offset.units + rest ≡ unitsOfOne
+  shared-out : offset.units + rest ≡ units_of_one
   shared-out = add-sub_of_le offset.upto-one
 
   abbrev first-corner : CornerUnits n j
@@ -202,9 +202,9 @@ module _ (n j k : ℕ) (a b : Float) (least : 2 ≤ n) (most : n ≤ 512) (first
   abbrev second : ℕ
   second = second-corner.units
 
-  coordinate-units : BetweenUnits (cornerOf j (step_of n)) (cornerOf k (step_of n)) (offset_of a b) (first * rest + second * offset.units)
+  coordinate-units : BetweenUnits (corner_of j (step_of n)) (corner_of k (step_of n)) (offset_of a b) (first * rest + second * offset.units)
   coordinate-units =
-      between-units (cornerOf j (step_of n)) (cornerOf k (step_of n)) (offset_of a b) first second offset.units rest
+      between-units (corner_of j (step_of n)) (corner_of k (step_of n)) (offset_of a b) first second offset.units rest
       first-corner.value second-corner.value offset.value shared-out
       (corner-upto n least most j first-last) (corner-upto n least most k second-last)
 
@@ -219,27 +219,27 @@ module _ (n j k : ℕ) (a b : Float) (least : 2 ≤ n) (most : n ≤ 512) (first
         rest = coordinate-units.rest-finite;
         first-product = coordinate-units.first-finite;
         second-product = coordinate-units.second-finite;
-        sum = finite-of-units (coordinateOf n j k a b) false coordinate-units.units coordinate-units.value;
+        sum = finite-of-units (coordinate_of n j k a b) false coordinate-units.units coordinate-units.value;
       }
 
   steps_pos : 0 < n - 1
   steps_pos = omega arith
 
   coordinate-apart : Beside j k
-      → Apart (coordinate-units.units * ((n - 1) * (A + B)) * fineness) ((j * B + k * A) * unitsOfOne * fineness) ((n - 1) * (A + B) * unitsOfOne)
+      → Apart (coordinate-units.units * ((n - 1) * (A + B)) * fineness) ((j * B + k * A) * units_of_one * fineness) ((n - 1) * (A + B) * units_of_one)
   coordinate-apart beside =
-      let l = unitsOfOne in
+      let l = units_of_one in
       let t = offset.units in
       whole-error l (n - 1) (A + B) coordinate-units.units (first * rest + second * t) (j * rest + k * t) (j * B + k * A) one-pos steps_pos
       coordinate-units.near
       (ends-near l (n - 1) first second t rest j k shared-out first-corner.near second-corner.near)
       (offset_near l A B t rest shared-out offset.near j k beside)
 
-  pub coordinate-within : Beside j k → Within (coordinateOf n j k a b) (exactCrossing n j k a b)
+  pub coordinate-within : Beside j k → Within (coordinate_of n j k a b) (exact_crossing n j k a b)
   coordinate-within beside =
       let va = offset.first in
       let vb = offset.second in
-      within-of-units (coordinateOf n j k a b) (exactCrossing n j k a b) coordinate-units.units (j * B + k * A) ((n - 1) * (A + B))
+      within-of-units (coordinate_of n j k a b) (exact_crossing n j k a b) coordinate-units.units (j * B + k * A) ((n - 1) * (A + B))
       ((size_of a).bottom * (size_of b).bottom) (mul-pos steps_pos offset.some) (mul-pos (bottom-pos a) (bottom-pos b)) coordinate-units.value
       (crossing-top n j k a b va.sign vb.sign A B va.value vb.value)
       (crossing-bottom n j k a b va.sign vb.sign A B va.value vb.value)

@@ -9,12 +9,12 @@ use lib.Dec.{T}
 use lib.Ieee.{binary32, of_int}
 use lib.Ieee.Scale.{finite}
 use Rattle.rounding.proofs.Nearness.{Near, ulps, near_times, near-cancel}
-use Rattle.rounding.proofs.Units.{unitsOfOne, safeUnits, normalUnits, HasUnits, rounded, roundedProduct, one-pos, one-large, safe-large, one-safe, rounded-near, rounded-near-whole}
+use Rattle.rounding.proofs.Units.{units_of_one, safe_units, normal_units, HasUnits, rounded, rounded_product, one-pos, one-large, safe-large, one-safe, rounded-near, rounded-near-whole}
 use Rattle.rounding.proofs.Signs.{finite-of-units}
 use Rattle.rounding.proofs.Operations.{mul-units, div-units}
 use Rattle.rounding.proofs.Values.{whole-units, one-units}
 use Rattle.marching_cubes_impl.specs.Sample.{one}
-use Rattle.positions.specs.Position.{step_of, cornerOf}
+use Rattle.positions.specs.Position.{step_of, corner_of}
 
 -- ---- on numbers alone, with l for 1.0, N for n - 1, h for the step and c for the corner coordinate
 
@@ -24,12 +24,12 @@ step-safe l m N some safe =
     let b : m * l * 1 ≤ m * l * N = mul-le-mul_left (m * l) some in
     omega arith
 
-step-normal : (l N : ℕ) → N < 512 → 2 ^ 100 ≤ l → normalUnits * (N * l) ≤ l * l
+step-normal : (l N : ℕ) → N < 512 → 2 ^ 100 ≤ l → normal_units * (N * l) ≤ l * l
 step-normal l N small large =
-    let a : normalUnits * N * l ≤ l * l = mul-le-mul_right l (le_trans (coarse N small) large) in
+    let a : normal_units * N * l ≤ l * l = mul-le-mul_right l (le_trans (coarse N small) large) in
     omega arith
   where
-    coarse : (N : ℕ) → N < 512 → normalUnits * N ≤ 2 ^ 100
+    coarse : (N : ℕ) → N < 512 → normal_units * N ≤ 2 ^ 100
     coarse N small = omega arith
 
 step-le : (l N h : ℕ) → 0 < N → Near (h * N) l l → h ≤ 2 * l
@@ -67,12 +67,12 @@ corner-le l N k c some last near =
 pub record StepUnits (n : ℕ) : Type 0 where
   pub units : ℕ
   pub value : HasUnits (step_of n) false units
-  pub near : Near (units * (n - 1)) unitsOfOne unitsOfOne
+  pub near : Near (units * (n - 1)) units_of_one units_of_one
 
 pub record CornerUnits (n k : ℕ) : Type 0 where
   pub units : ℕ
-  pub value : HasUnits (cornerOf k (step_of n)) false units
-  pub near : Near (units * (n - 1)) (k * unitsOfOne) (5 * (n - 1) * unitsOfOne)
+  pub value : HasUnits (corner_of k (step_of n)) false units
+  pub near : Near (units * (n - 1)) (k * units_of_one) (5 * (n - 1) * units_of_one)
 
 module _ (n : ℕ) (least : 2 ≤ n) (most : n ≤ 512) where
   abbrev N : ℕ
@@ -87,12 +87,12 @@ module _ (n : ℕ) (least : 2 ≤ n) (most : n ≤ 512) where
   pub step-units : StepUnits n
   unfolding step_of
   step-units =
-      let l = unitsOfOne in
+      let l = units_of_one in
       let some = mul-pos N-pos one-pos in
       let whole = whole-units N (below N N-lt) in
       record {
         units = rounded l (N * l);
-        value = div-units one (of_int binary32 (pos N)) false false l (N * l) one-units whole some (step-safe l safeUnits N N-pos one-safe);
+        value = div-units one (of_int binary32 (pos N)) false false l (N * l) one-units whole some (step-safe l safe_units N N-pos one-safe);
         near = cut (rounded l (N * l)) N l one-pos (rounded-near l (N * l) (l * l) some (le_refl (l * l)) (step-normal l N N-lt one-large));
       }
     where
@@ -110,13 +110,13 @@ module _ (n : ℕ) (least : 2 ≤ n) (most : n ≤ 512) where
     k-last = omega arith
 
     pub corner-units : CornerUnits n k
-    unfolding cornerOf
+    unfolding corner_of
     corner-units =
         let h = step-units.units in
-        let l = unitsOfOne in
-        let c = roundedProduct (k * l * h) in
+        let l = units_of_one in
+        let c = rounded_product (k * l * h) in
         let whole = whole-units k (omega arith) in
-        let safe = product-safe l safeUnits k h (step-le l N h N-pos step-units.near) (le_trans last most) safe-large in
+        let safe = product-safe l safe_units k h (step-le l N h N-pos step-units.near) (le_trans last most) safe-large in
         let product : Near c (k * h) (k * h) = rounded-near-whole (k * l * h) (l * l) (k * h) (mul-pos one-pos one-pos) (regroup k l h) in
         record {
           units = c;
@@ -127,8 +127,8 @@ module _ (n : ℕ) (least : 2 ≤ n) (most : n ≤ 512) where
         regroup : (k l h : ℕ) → k * l * h * l ≡ k * h * (l * l)
         regroup k l h = omega arith
 
-    pub corner-upto : corner-units.units * ulps ≤ unitsOfOne * (2 * ulps + 5)
-    corner-upto = corner-le unitsOfOne N k corner-units.units N-pos k-last corner-units.near
+    pub corner-upto : corner-units.units * ulps ≤ units_of_one * (2 * ulps + 5)
+    corner-upto = corner-le units_of_one N k corner-units.units N-pos k-last corner-units.near
 
-    pub corner-finite : T (finite (cornerOf k (step_of n)))
-    corner-finite = finite-of-units (cornerOf k (step_of n)) false corner-units.units corner-units.value
+    pub corner-finite : T (finite (corner_of k (step_of n)))
+    corner-finite = finite-of-units (corner_of k (step_of n)) false corner-units.units corner-units.value

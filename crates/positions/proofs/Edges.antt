@@ -10,14 +10,14 @@ use native.Mathlib.Omega.{arith}
 use lib.Dec.{T, leb, leb→le, lit≤, lit<}
 use lib.ListN.{length, get_or}
 use lib.Ieee.{Float, le, fits}
-use Rattle.marching_cubes_tables.specs.Tables.{corners, cornerOffset, edgeEnd}
+use Rattle.marching_cubes_tables.specs.Tables.{corners, corner_offset, edge_end}
 use Rattle.marching_cubes_tables.proofs.Tests.{both_left, both_right}
 use Rattle.marching_cubes_impl.specs.Sample.{good, inside}
 use Rattle.marching_cubes_impl.specs.Edge.{crosses}
-use Rattle.positions.specs.Position.{step_of, GridPoint, sampleAt, point_of, vertexBetween, vertexOf, end_of, position_of}
+use Rattle.positions.specs.Position.{step_of, GridPoint, sample_at, point_of, vertex_between, vertex_of, end_of, position_of}
 use Rattle.positions.specs.Crossing.{NearCrossing, Crossed, InGrid, Beside, Neighbours, GoodGrid}
 use Rattle.positions.proofs.Bound.{coordinate-within}
-use Rattle.positions.proofs.Believable.{minusOne, three}
+use Rattle.positions.proofs.Believable.{minus_one, three}
 
 -- ---- between neighbours
 
@@ -26,7 +26,7 @@ pub vertex-near : (n layers : ℕ) (p q : GridPoint) (a b : Float) → 2 ≤ n �
     → InGrid n layers q
     → Neighbours p q
     → Crossed a b
-    → NearCrossing n p q a b (vertexOf n p q a b)
+    → NearCrossing n p q a b (vertex_of n p q a b)
 vertex-near n layers p q a b least most upto first second beside crossed =
     record {
       near-x = coordinate-within n p.x q.x a b least most (below first.in-x) (below second.in-x) crossed beside.beside-x;
@@ -46,10 +46,10 @@ bits : List ℕ → Bool
 bits [] = true
 bits (b ∷ bs) = leb b 1 && bits bs
 
-rowsOfBits : List (List ℕ) → Bool
+rows_of_bits : List (List ℕ) → Bool
 unfolding bits
-rowsOfBits [] = true
-rowsOfBits (r ∷ rs) = bits r && rowsOfBits rs
+rows_of_bits [] = true
+rows_of_bits (r ∷ rs) = bits r && rows_of_bits rs
 
 bits_at : (r : List ℕ) → T (bits r) → (axis : ℕ) → get_or r axis 0 ≤ 1
 unfolding bits
@@ -57,18 +57,18 @@ bits_at [] t axis = zero-le
 bits_at (b ∷ bs) t zero = leb→le b 1 (both_left (leb b 1) (bits bs) t)
 bits_at (b ∷ bs) t (suc axis) = bits_at bs (both_right (leb b 1) (bits bs) t) axis
 
-rows_at : (rs : List (List ℕ)) → T (rowsOfBits rs) → (c axis : ℕ) → get_or (get_or rs c []) axis 0 ≤ 1
-unfolding rowsOfBits
+rows_at : (rs : List (List ℕ)) → T (rows_of_bits rs) → (c axis : ℕ) → get_or (get_or rs c []) axis 0 ≤ 1
+unfolding rows_of_bits
 rows_at [] t c axis = zero-le
-rows_at (r ∷ rs) t zero axis = bits_at r (both_left (bits r) (rowsOfBits rs) t) axis
-rows_at (r ∷ rs) t (suc c) axis = rows_at rs (both_right (bits r) (rowsOfBits rs) t) c axis
+rows_at (r ∷ rs) t zero axis = bits_at r (both_left (bits r) (rows_of_bits rs) t) axis
+rows_at (r ∷ rs) t (suc c) axis = rows_at rs (both_right (bits r) (rows_of_bits rs) t) c axis
 
-corners-bits : T (rowsOfBits corners)
-unfolding corners rowsOfBits
+corners-bits : T (rows_of_bits corners)
+unfolding corners rows_of_bits
 corners-bits = tt
 
-pub cornerOffset-le : (c axis : ℕ) → cornerOffset c axis ≤ 1
-cornerOffset-le c axis = rows_at corners corners-bits c axis
+pub corner_offset-le : (c axis : ℕ) → corner_offset c axis ≤ 1
+corner_offset-le c axis = rows_at corners corners-bits c axis
 
 beside-of-bits : (x b c : ℕ) → b ≤ 1 → c ≤ 1 → Beside (x + b) (x + c)
 beside-of-bits x zero zero h k = inl refl
@@ -78,7 +78,7 @@ beside-of-bits x (suc b) (suc c) h k = inl (omega arith)
 
 -- what the code works out, from points that it has at hand
 pub position-is : (n x y z e : ℕ) (a b : Float)
-    → position_of n x y z e a b ≡ vertexBetween (point_of (end_of x y z e 0) (step_of n)) (point_of (end_of x y z e 1) (step_of n)) a b
+    → position_of n x y z e a b ≡ vertex_between (point_of (end_of x y z e 0) (step_of n)) (point_of (end_of x y z e 1) (step_of n)) a b
 unfolding position_of
 position-is n x y z e a b = refl
 
@@ -91,11 +91,11 @@ module _ (x y z e : ℕ) where
         beside-z = along z _;
       }
     where
-      along : (x axis : ℕ) → Beside (x + cornerOffset (edgeEnd e 0) axis) (x + cornerOffset (edgeEnd e 1) axis)
+      along : (x axis : ℕ) → Beside (x + corner_offset (edge_end e 0) axis) (x + corner_offset (edge_end e 1) axis)
       along x axis =
-          let first = edgeEnd e 0 in
-          let second = edgeEnd e 1 in
-          beside-of-bits x (cornerOffset first axis) (cornerOffset second axis) (cornerOffset-le first axis) (cornerOffset-le second axis)
+          let first = edge_end e 0 in
+          let second = edge_end e 1 in
+          beside-of-bits x (corner_offset first axis) (corner_offset second axis) (corner_offset-le first axis) (corner_offset-le second axis)
 
   module _ (n layers : ℕ) (in-x : x + 1 < n) (in-y : y + 1 < n) (in-z : z + 1 < layers) where
     pub end-in-grid : (end : ℕ) → InGrid n layers (end_of x y z e end)
@@ -106,8 +106,8 @@ module _ (x y z e : ℕ) where
           in-z = corner z layers _ in-z;
         }
       where
-        corner : (x m axis : ℕ) → x + 1 < m → x + cornerOffset (edgeEnd e end) axis < m
-        corner x m axis h = let bit = cornerOffset-le (edgeEnd e end) axis in omega arith
+        corner : (x m axis : ℕ) → x + 1 < m → x + corner_offset (edge_end e end) axis < m
+        corner x m axis h = let bit = corner_offset-le (edge_end e end) axis in omega arith
 
     -- every coordinate of the vertex on any edge of any cell is finite, not -0.0, and within 2 ^ -20 of the exact crossing
     pub position-near : (a b : Float) → 2 ≤ n → n ≤ 512 → layers ≤ n + 1 → Crossed a b
@@ -126,7 +126,7 @@ place-lt n layers x y z hx hy hz =
 
 module _ (n layers : ℕ) (samples : List Float) (grid : GoodGrid n layers samples) where
   abbrev at : GridPoint → Float
-  at p = sampleAt n samples p
+  at p = sample_at n samples p
 
   place_in : (p : GridPoint) → InGrid n layers p → (p.z * n + p.y) * n + p.x < length samples
   place_in p i = lt_of_lt_of_le (place-lt n layers p.x p.y p.z i.in-x i.in-y i.in-z) (le_of_eq (sym grid.whole))
@@ -145,7 +145,7 @@ module _ (n layers : ℕ) (samples : List Float) (grid : GoodGrid n layers sampl
   upto = let most = grid.layers-most in omega arith
 
   pub vertex-of-samples-near : (p q : GridPoint) → InGrid n layers p → InGrid n layers q → Neighbours p q → T (crosses (at p) (at q))
-      → NearCrossing n p q (at p) (at q) (vertexOf n p q (at p) (at q))
+      → NearCrossing n p q (at p) (at q) (vertex_of n p q (at p) (at q))
   vertex-of-samples-near p q first second beside c =
       vertex-near n layers p q (at p) (at q) grid.least grid.most upto first second beside (crossed-samples p q first second c)
 
@@ -159,9 +159,9 @@ module _ (n layers : ℕ) (samples : List Float) (grid : GoodGrid n layers sampl
 
 -- ---- the conditions can be met: from -1.0 at x = 1 to 3.0 at x = 2, edge 0 of the cell 1, 0, 0 in a grid of size 5
 
-example-crossed : Crossed minusOne three
+example-crossed : Crossed minus_one three
 unfolding good crosses inside le fits
 example-crossed = record { first_fits = tt; second_fits = tt; first_good = tt; second-good = tt; crossed = tt }
 
-example-near : NearCrossing 5 (end_of 1 0 0 0 0) (end_of 1 0 0 0 1) minusOne three (position_of 5 1 0 0 0 minusOne three)
-example-near = position-near 1 0 0 0 5 6 (lit< tt) (lit< tt) (lit< tt) minusOne three (lit≤ tt) (lit≤ tt) (lit≤ tt) example-crossed
+example-near : NearCrossing 5 (end_of 1 0 0 0 0) (end_of 1 0 0 0 1) minus_one three (position_of 5 1 0 0 0 minus_one three)
+example-near = position-near 1 0 0 0 5 6 (lit< tt) (lit< tt) (lit< tt) minus_one three (lit≤ tt) (lit≤ tt) (lit≤ tt) example-crossed

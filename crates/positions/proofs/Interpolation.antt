@@ -9,7 +9,7 @@ use lib.Dec.{T, lit≤}
 use lib.Ieee.{Float, binary32, sub, mul}
 use lib.Ieee.Scale.{finite}
 use Rattle.rounding.proofs.Nearness.{Near, ulps, near_times}
-use Rattle.rounding.proofs.Units.{unitsOfOne, safeUnits, normalUnits, HasUnits, roundedSum, roundedProduct, one-pos, one-large, one-safe, safe-large, sum_near, product-near}
+use Rattle.rounding.proofs.Units.{units_of_one, safe_units, normal_units, HasUnits, rounded_sum, rounded_product, one-pos, one-large, one-safe, safe-large, sum_near, product-near}
 use Rattle.rounding.proofs.Signs.{OnSide, side-of-units, finite-of-units}
 use Rattle.rounding.proofs.Operations.{add-plus, sub-plus, mul-units, mul-side}
 use Rattle.rounding.proofs.Values.{one-units}
@@ -27,7 +27,7 @@ sizes-coarse uw yt ll h = omega arith
 rest-coarse : (uw ux : ℕ) → ux * ulps ≤ uw * ulps + uw → ux * 32 ≤ uw * 33
 rest-coarse uw ux h = omega arith
 
-products-coarse : (yt ux pl ql l : ℕ) → pl * ulps ≤ ux * ulps + (ux + normalUnits * l) → ql * ulps ≤ yt * ulps + (yt + normalUnits * l)
+products-coarse : (yt ux pl ql l : ℕ) → pl * ulps ≤ ux * ulps + (ux + normal_units * l) → ql * ulps ≤ yt * ulps + (yt + normal_units * l)
     → (pl + ql) * 32 ≤ (ux + yt) * 33 + 32 * l
 products-coarse yt ux pl ql l h k = omega arith
 
@@ -38,11 +38,11 @@ errors-le : (uw yt ux pl ql ll l : ℕ) → (uw + yt) * 100 ≤ ll * 201
     → ux * 32 ≤ uw * 33
     → (pl + ql) * 32 ≤ (ux + yt) * 33 + 32 * l
     → ulps * l * 1000 ≤ ll
-    → pl + ql + (ux + normalUnits * l) + (yt + normalUnits * l) + uw ≤ 7 * ll
+    → pl + ql + (ux + normal_units * l) + (yt + normal_units * l) + uw ≤ 7 * ll
 errors-le uw yt ux pl ql ll l a b c d = omega arith
 
-errors-add : (uw yt ux pl ql rl ll l : ℕ) → pl + ql + (ux + normalUnits * l) + (yt + normalUnits * l) + uw ≤ 7 * ll
-    → Near ux uw uw → Near pl ux (ux + normalUnits * l) → Near ql yt (yt + normalUnits * l) → Near rl (pl + ql) (pl + ql)
+errors-add : (uw yt ux pl ql rl ll l : ℕ) → pl + ql + (ux + normal_units * l) + (yt + normal_units * l) + uw ≤ 7 * ll
+    → Near ux uw uw → Near pl ux (ux + normal_units * l) → Near ql yt (yt + normal_units * l) → Near rl (pl + ql) (pl + ql)
     → Near rl (uw + yt) (7 * ll)
 errors-add uw yt ux pl ql rl ll l h rest first second sum = omega arith
 
@@ -57,8 +57,8 @@ sizes l U Y t w e hu hy =
 
 roundings-near : (l U Y t w x p q r : ℕ) → ulps * ulps ≤ l → t + w ≡ l → U * ulps ≤ l * (2 * ulps + 5) → Y * ulps ≤ l * (2 * ulps + 5)
     → Near x w w
-    → Near (p * l) (U * x) (U * x + normalUnits * l)
-    → Near (q * l) (Y * t) (Y * t + normalUnits * l)
+    → Near (p * l) (U * x) (U * x + normal_units * l)
+    → Near (q * l) (Y * t) (Y * t + normal_units * l)
     → Near r (p + q) (p + q)
     → Near (r * l) (U * w + Y * t) (7 * (l * l))
 roundings-near l U Y t w x p q r large e hu hy rest first second sum =
@@ -88,14 +88,14 @@ product-safe l m U X hu hx room =
     sixteen : (l m : ℕ) → 2 ^ 100 * l ≤ m → 16 * l ≤ m
     sixteen l m h = omega arith
 
-product_le : (l U X p : ℕ) → 0 < l → U ≤ 4 * l → X ≤ 4 * l → Near (p * l) (U * X) (U * X + normalUnits * l) → p ≤ 40 * l
+product_le : (l U X p : ℕ) → 0 < l → U ≤ 4 * l → X ≤ 4 * l → Near (p * l) (U * X) (U * X + normal_units * l) → p ≤ 40 * l
 product_le l U X p some hu hx near =
     let a : U * X ≤ 4 * l * (4 * l) = mul-le-mul hu hx in
     let b : 1 * l ≤ l * l = mul-le-mul_right l some in
     let c : p * l ≤ 40 * (l * l) = small (p * l) (U * X) (l * l) l (omega arith) near.0 b in
     le_of_mul-le-mul_right {k = l} (omega arith) some
   where
-    small : (x a w l : ℕ) → a ≤ 16 * w → x * ulps ≤ a * ulps + (a + normalUnits * l) → 1 * l ≤ w → x ≤ 40 * w
+    small : (x a w l : ℕ) → a ≤ 16 * w → x * ulps ≤ a * ulps + (a + normal_units * l) → 1 * l ≤ w → x ≤ 40 * w
     small x a w l h o s = omega arith
 
 -- ---- as floats
@@ -103,22 +103,22 @@ product_le l U X p some hu hx near =
 pub record BetweenUnits (u v t : Float) (exact : ℕ) : Type 0 where
   pub units : ℕ
   pub value : HasUnits (between u v t) false units
-  pub near : Near (units * unitsOfOne) exact (7 * (unitsOfOne * unitsOfOne))
+  pub near : Near (units * units_of_one) exact (7 * (units_of_one * units_of_one))
   -- no operation on the way overflows
   pub rest-finite : T (finite (sub binary32 one t))
   pub first-finite : T (finite (mul binary32 u (sub binary32 one t)))
   pub second-finite : T (finite (mul binary32 v t))
 
 -- the ends are U and Y units, t is S units and 1 - t is W
-pub between-units : (u v t : Float) (U Y S W : ℕ) → HasUnits u false U → HasUnits v false Y → OnSide false t S → S + W ≡ unitsOfOne
-    → U * ulps ≤ unitsOfOne * (2 * ulps + 5) → Y * ulps ≤ unitsOfOne * (2 * ulps + 5)
+pub between-units : (u v t : Float) (U Y S W : ℕ) → HasUnits u false U → HasUnits v false Y → OnSide false t S → S + W ≡ units_of_one
+    → U * ulps ≤ units_of_one * (2 * ulps + 5) → Y * ulps ≤ units_of_one * (2 * ulps + 5)
     → BetweenUnits u v t (U * W + Y * S)
 unfolding between
 between-units u v t U Y S W hu hv ht e bu by =
-    let l = unitsOfOne in
-    let X = roundedSum W in
-    let P = roundedProduct (U * X) in
-    let Q = roundedProduct (Y * S) in
+    let l = units_of_one in
+    let X = rounded_sum W in
+    let P = rounded_product (U * X) in
+    let Q = rounded_product (Y * S) in
     let u4 : U ≤ 4 * l = four U l bu in
     let y4 : Y ≤ 4 * l = four Y l by in
     let x4 : X ≤ 4 * l = rest-four X W S l e (sum_near W).0 in
@@ -127,12 +127,12 @@ between-units u v t U Y S W hu hv ht e bu by =
     let q40 : Q ≤ 40 * l = product_le l Y S Q one-pos y4 t4 (product-near (Y * S)) in
     let rest = sub binary32 one t in
     let vs = sub-plus one t l S W one-units ht e one-safe in
-    let vp = mul-units u rest false false U X hu vs (product-safe l safeUnits U X u4 x4 safe-large) in
-    let vq = mul-side false false v t Y S (side-of-units false v Y hv) ht (product-safe l safeUnits Y S y4 t4 safe-large) in
+    let vp = mul-units u rest false false U X hu vs (product-safe l safe_units U X u4 x4 safe-large) in
+    let vq = mul-side false false v t Y S (side-of-units false v Y hv) ht (product-safe l safe_units Y S y4 t4 safe-large) in
     record {
-      units = roundedSum (P + Q);
+      units = rounded_sum (P + Q);
       value = add-plus (mul binary32 u rest) (mul binary32 v t) P Q vp vq (le_trans (eighty P Q l p40 q40) safe-large);
-      near = roundings-near l U Y S W X P Q (roundedSum (P + Q)) (le_trans (lit≤ tt) one-large) e bu by
+      near = roundings-near l U Y S W X P Q (rounded_sum (P + Q)) (le_trans (lit≤ tt) one-large) e bu by
           (sum_near W) (product-near (U * X)) (product-near (Y * S)) (sum_near (P + Q));
       rest-finite = finite-of-units rest false X vs;
       first-finite = finite-of-units (mul binary32 u rest) false P vp;

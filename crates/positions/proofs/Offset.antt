@@ -10,7 +10,7 @@ use lib.Dec.{T, lit≤}
 use lib.Ieee.{Float, binary32, unlike, sub, div, neg, eq, le}
 use lib.Ieee.Scale.{finite}
 use Rattle.rounding.proofs.Nearness.{Near, ulps, near_times}
-use Rattle.rounding.proofs.Units.{unitsOfOne, safeUnits, normalUnits, HasUnits, Representable, rounded, roundedSum, Safe, one-pos, one-large, one-safe, one-representable, sum_near, quotient-near, rounded-mono, rounded-exact}
+use Rattle.rounding.proofs.Units.{units_of_one, safe_units, normal_units, HasUnits, Representable, rounded, rounded_sum, Safe, one-pos, one-large, one-safe, one-representable, sum_near, quotient-near, rounded-mono, rounded-exact}
 use Rattle.rounding.proofs.Signs.{OnSide, side-of-units, units-of-side, finite-of-units, neg-units, neg-side, le-of-side, not-equal-zero, above_zero, upto_zero}
 use Rattle.rounding.proofs.Operations.{sub-side, div-side}
 use Rattle.rounding.proofs.Values.{ValueOf, zero-units, one-units}
@@ -65,10 +65,10 @@ opposite a b s t A B ha hb c =
 -- ---- on numbers alone: t is A over the rounded sum D
 
 -- the rounded sum is no less than either part
-part-le-sum : (A B : ℕ) → Representable A → B + A ≤ safeUnits → A ≤ roundedSum (B + A)
+part-le-sum : (A B : ℕ) → Representable A → B + A ≤ safe_units → A ≤ rounded_sum (B + A)
 part-le-sum A B r safe =
-    let l = unitsOfOne in
-    let small : A ≤ safeUnits = omega arith in
+    let l = units_of_one in
+    let small : A ≤ safe_units = omega arith in
     le_trans (le_of_eq (sym (rounded-exact A l A one-pos r small refl)))
     (rounded-mono A l (B + A) l one-pos one-pos (mul-le-mul_right l small) (mul-le-mul_right l safe) (mul-le-mul_right l (within A B)))
   where
@@ -76,12 +76,12 @@ part-le-sum A B r safe =
     within A B = omega arith
 
 part-safe : (A D : ℕ) → A ≤ D → Safe A D
-part-safe A D h = le_trans (mul-le-mul h one-safe) (le_of_eq (mul_comm D safeUnits))
+part-safe A D h = le_trans (mul-le-mul h one-safe) (le_of_eq (mul_comm D safe_units))
 
 -- so the quotient is at most 1
-quotient-le-one : (A D : ℕ) → 0 < D → A ≤ D → rounded A D ≤ unitsOfOne
+quotient-le-one : (A D : ℕ) → 0 < D → A ≤ D → rounded A D ≤ units_of_one
 quotient-le-one A D some h =
-    let l = unitsOfOne in
+    let l = units_of_one in
     let smaller : A * l ≤ l * D = le_trans (le_of_eq (mul_comm A l)) (mul-le-mul_left l h) in
     le_trans (rounded-mono A D l l some one-pos (part-safe A D h) (mul-le-mul_right l one-safe) smaller)
     (le_of_eq (rounded-exact l l l one-pos one-representable one-safe refl))
@@ -90,13 +90,13 @@ sum-pos : (A B D : ℕ) → 0 < A + B → Near D (B + A) (B + A) → 0 < D
 sum-pos A B D some near = omega arith
 
 -- the errors of the sum and of the quotient together, with l for 1.0
-errors-add : (l A B D t : ℕ) → ulps ≤ l → t ≤ l → Near D (B + A) (B + A) → Near (t * D) (A * l) (A * l + normalUnits * D)
+errors-add : (l A B D t : ℕ) → ulps ≤ l → t ≤ l → Near D (B + A) (B + A) → Near (t * D) (A * l) (A * l + normal_units * D)
     → Near (t * (A + B)) (A * l) (3 * ((A + B) * l))
 errors-add l A B D t large upto sum quotient =
     let S = A + B in
     let turn = le_of_eq (mul_comm l S) in
     let near = swapped A B D sum in
-    whole (t * D) (t * S) (A * l) (S * l) (normalUnits * D) (scaled D S t near) quotient
+    whole (t * D) (t * S) (A * l) (S * l) (normal_units * D) (scaled D S t near) quotient
     (le_trans (mul-le-mul_right S upto) turn)
     (mul-le-mul_right l (left A B))
     (normal-small D S (S * l) near.0 (le_trans (mul-le-mul_right S large) turn))
@@ -110,7 +110,7 @@ errors-add l A B D t large upto sum quotient =
     scaled : (D s t : ℕ) → Near D s s → Near (t * D) (t * s) (t * s)
     scaled D s t near = let times = near_times D s s t near in omega arith
 
-    normal-small : (D s sl : ℕ) → D * ulps ≤ s * ulps + s → ulps * s ≤ sl → normalUnits * D ≤ sl
+    normal-small : (D s sl : ℕ) → D * ulps ≤ s * ulps + s → ulps * s ≤ sl → normal_units * D ≤ sl
     normal-small D s sl h k = let d : D ≤ 2 * s = omega arith in omega arith
 
     whole : (td ts al sl d : ℕ) → Near td ts ts → Near td al (al + d) → ts ≤ sl → al ≤ sl → d ≤ sl → Near ts al (3 * sl)
@@ -129,8 +129,8 @@ pub record CrossingOffset (a b : Float) : Type 0 where
   pub some : 0 < first.units + second.units
   pub units : ℕ
   pub value : OnSide false (offset_of a b) units
-  pub upto-one : units ≤ unitsOfOne
-  pub near : Near (units * (first.units + second.units)) (first.units * unitsOfOne) (3 * ((first.units + second.units) * unitsOfOne))
+  pub upto-one : units ≤ units_of_one
+  pub near : Near (units * (first.units + second.units)) (first.units * units_of_one) (3 * ((first.units + second.units) * units_of_one))
 
 module _ (a b : Float) (e : Crossed a b) where
   abbrev first : Sample a
@@ -147,15 +147,15 @@ module _ (a b : Float) (e : Crossed a b) where
 
   -- the rounded sum of the sizes: the size of delta
   abbrev D : ℕ
-  D = roundedSum (B + A)
+  D = rounded_sum (B + A)
 
   sides : Opposite a b A B
   sides = opposite a b first.known.sign second.known.sign A B first.known.value second.known.value e.crossed
 
-  sum-safe : B + A ≤ safeUnits
+  sum-safe : B + A ≤ safe_units
   sum-safe = halves A B first.half-safe second.half-safe
     where
-      halves : (u v : ℕ) → u + u ≤ safeUnits → v + v ≤ safeUnits → v + u ≤ safeUnits
+      halves : (u v : ℕ) → u + u ≤ safe_units → v + v ≤ safe_units → v + u ≤ safe_units
       halves u v h k = omega arith
 
   D-pos : 0 < D
@@ -187,7 +187,7 @@ module _ (a b : Float) (e : Crossed a b) where
       like-signs true = refl
       like-signs false = refl
 
-  offset-upto-one : rounded A D ≤ unitsOfOne
+  offset-upto-one : rounded A D ≤ units_of_one
   offset-upto-one = quotient-le-one A D D-pos A-le
 
   pub offset-finite : T (finite (offset_of a b))
@@ -199,11 +199,11 @@ module _ (a b : Float) (e : Crossed a b) where
 
   pub offset-le-one : T (le (offset_of a b) one)
   offset-le-one =
-      le-of-side (offset_of a b) one (rounded A D) unitsOfOne offset-side (side-of-units false one unitsOfOne one-units) offset-upto-one
+      le-of-side (offset_of a b) one (rounded A D) units_of_one offset-side (side-of-units false one units_of_one one-units) offset-upto-one
 
-  offset_near : Near (rounded A D * (A + B)) (A * unitsOfOne) (3 * ((A + B) * unitsOfOne))
+  offset_near : Near (rounded A D * (A + B)) (A * units_of_one) (3 * ((A + B) * units_of_one))
   offset_near =
-      errors-add unitsOfOne A B D (rounded A D) (le_trans (lit≤ tt) one-large) offset-upto-one (sum_near (B + A)) (quotient-near A D D-pos)
+      errors-add units_of_one A B D (rounded A D) (le_trans (lit≤ tt) one-large) offset-upto-one (sum_near (B + A)) (quotient-near A D D-pos)
 
   pub crossing-offset : CrossingOffset a b
   crossing-offset =

@@ -8,26 +8,26 @@ use lib.IntN.{ℤ}
 use lib.Dec.{T, leb→le, lit≤}
 use lib.Ieee.{Float, nan, inf, fin, binary32, up, down, fits}
 use lib.Ieee.Fits.{down_pos}
-use Rattle.rounding.proofs.Units.{unitsOfOne, safeUnits, HasUnits}
+use Rattle.rounding.proofs.Units.{units_of_one, safe_units, HasUnits}
 use Rattle.rounding.proofs.Values.{ValueOf, value-of-fits}
 use Rattle.marching_cubes_impl.specs.Sample.{good}
 
 pub record Sample (x : Float) : Type 0 where
   pub known : ValueOf x
-  pub half-safe : known.units + known.units ≤ safeUnits
+  pub half-safe : known.units + known.units ≤ safe_units
 
 -- twice 2 ^ 126 is 2 ^ 127
-twice-safe : (units : ℕ) → units ≤ 2 ^ 126 * unitsOfOne → units + units ≤ safeUnits
-unfolding unitsOfOne safeUnits
+twice-safe : (units : ℕ) → units ≤ 2 ^ 126 * units_of_one → units + units ≤ safe_units
+unfolding units_of_one safe_units
 twice-safe units h = le_trans (double units (2 ^ 126 * 2 ^ 149) h) (lit≤ tt)
   where
     double : (u v : ℕ) → u ≤ v → u + u ≤ v + v
     double u v h = omega arith
 
-units-le : (s t : Bool) (m : ℕ) (e : ℤ) (u : ℕ) → HasUnits (fin s m e) t u → m * up e ≤ 2 ^ 126 * down e → u ≤ 2 ^ 126 * unitsOfOne
+units-le : (s t : Bool) (m : ℕ) (e : ℤ) (u : ℕ) → HasUnits (fin s m e) t u → m * up e ≤ 2 ^ 126 * down e → u ≤ 2 ^ 126 * units_of_one
 units-le s t m e u h k =
     le_of_mul-le-mul_right {k = down e}
-    (le_trans (le_of_eq (sym h.1)) (le_trans (mul-le-mul_right unitsOfOne k) (le_of_eq (mul_right_comm (2 ^ 126) (down e) unitsOfOne))))
+    (le_trans (le_of_eq (sym h.1)) (le_trans (mul-le-mul_right units_of_one k) (le_of_eq (mul_right_comm (2 ^ 126) (down e) units_of_one))))
     (down_pos e)
 
 pub sample-of-good : (x : Float) → T (fits binary32 x) → T (good x) → Sample x

@@ -23,8 +23,8 @@ size_of (fin s m e) = record { top = m * up e; bottom = down e }
 -- Over one denominator the sizes of a and b are as A to B, and a and b lie on two sides of zero. So the straight line from a at j to b at k
 -- is zero where the distances to the two ends are as A to B: at (j * B + k * A) / (A + B) steps. A step of the grid is exactly 1 / (n - 1).
 -- On an axis along which the edge does not run, j = k and this is j steps.
-unfoldable pub exactCrossing : ℕ → ℕ → ℕ → Float → Float → Fraction
-exactCrossing n j k a b =
+unfoldable pub exact_crossing : ℕ → ℕ → ℕ → Float → Float → Fraction
+exact_crossing n j k a b =
     let A = (size_of a).top * (size_of b).bottom in
     let B = (size_of b).top * (size_of a).bottom in
     record { top = j * B + k * A; bottom = (n - 1) * (A + B) }
@@ -32,11 +32,11 @@ exactCrossing n j k a b =
 -- ---- within 2 ^ -20
 
 -- a finite number whose sign bit is clear: no NaN, no infinity, and no -0.0
-abbrev pub finitePlus : Float → Bool
-finitePlus nan = false
-finitePlus (inf s) = false
-finitePlus (fin true m e) = false
-finitePlus (fin false m e) = true
+abbrev pub finite_plus : Float → Bool
+finite_plus nan = false
+finite_plus (inf s) = false
+finite_plus (fin true m e) = false
+finite_plus (fin false m e) = true
 
 -- the distance that is allowed is 1 / 2 ^ 20
 abbrev pub fineness : ℕ
@@ -45,15 +45,15 @@ fineness = 2 ^ 20
 -- c - 1 / fineness ≤ x ≤ c + 1 / fineness, with the denominators multiplied out
 pub record Within (x : Float) (c : Fraction) : Type 0 where
   pub fraction : 0 < c.bottom
-  pub number : T (finitePlus x)
+  pub number : T (finite_plus x)
   pub not-above : (size_of x).top * c.bottom * fineness ≤ c.top * (size_of x).bottom * fineness + c.bottom * (size_of x).bottom
   pub not-below : c.top * (size_of x).bottom * fineness ≤ (size_of x).top * c.bottom * fineness + c.bottom * (size_of x).bottom
 
 -- all three coordinates of v, a vertex on the edge from p with the sample a to q with the sample b
 pub record NearCrossing (n : ℕ) (p q : GridPoint) (a b : Float) (v : Vertex) : Type 0 where
-  pub near-x : Within v.x (exactCrossing n p.x q.x a b)
-  pub near-y : Within v.y (exactCrossing n p.y q.y a b)
-  pub near-z : Within v.z (exactCrossing n p.z q.z a b)
+  pub near-x : Within v.x (exact_crossing n p.x q.x a b)
+  pub near-y : Within v.y (exact_crossing n p.y q.y a b)
+  pub near-z : Within v.z (exact_crossing n p.z q.z a b)
 
 -- ---- of which edges it is said
 

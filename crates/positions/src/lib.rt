@@ -1,7 +1,7 @@
 // Where a vertex is put (the float part of `extract` in marching_cubes.rs), for sizes to 512. Whole
 // numbers are u32 here: a usize as f32 would cost a branch. `proofs/Edges.antt` has demand 3.
 ghost use Rattle.std.specs.Prelude.{◌≡◌, ◌≤◌};
-ghost use Rattle.positions.specs.Position.{step_of, cornerOf, point_of, vertexBetween};
+ghost use Rattle.positions.specs.Position.{step_of, corner_of, point_of, vertex_between};
 
 use marching_cubes_impl::vertex::Vertex;
 
@@ -16,7 +16,7 @@ pub fn step(n: u32) -> f32
 // The coordinate of the whole number k, for the step h.
 pub fn corner_coordinate(k: u32, h: f32) -> f32
     requires { k ≤ 512 }
-    ensures { result ≡ cornerOf k h }
+    ensures { result ≡ corner_of k h }
 {
     k as f32 * h
 }
@@ -36,7 +36,7 @@ pub fn grid_point(x: u32, y: u32, z: u32, h: f32) -> Vertex
 // The vertex on the edge from the point u with the sample a to the point v with the sample b. Any
 // f32 are taken; a walk passes points whose coordinates it has worked out once.
 pub fn position(u: Vertex, v: Vertex, a: f32, b: f32) -> Vertex
-    ensures { result ≡ vertexBetween u v a b }
+    ensures { result ≡ vertex_between u v a b }
 {
     marching_cubes_impl::vertex::interpolate(u, v, marching_cubes_impl::edge::get_offset(a, b))
 }

@@ -1,8 +1,8 @@
 // The answer about a sample record as it crosses the C boundary, and as the listing program takes it:
 // the cause and the place beside the size and the numbering.
 ghost use Rattle.std.specs.Prelude.{◌≡◌};
-ghost use Rattle.sample_record.specs.Record.{recordOf};
-ghost use Rattle.record_answer.specs.Record.{recordAnswer};
+ghost use Rattle.sample_record.specs.Record.{record_of};
+ghost use Rattle.record_answer.specs.Record.{record_answer};
 
 use sample_record::Record;
 
@@ -30,7 +30,7 @@ fn refused(cause: u32, place: usize) -> RecordAnswer
 // What the bytes of a sample record of size 2 to `limit` hold, or the first refusal in document 01's
 // order. The bytes are only read.
 pub fn record_answer(bytes: &[u8], limit: u16) -> RecordAnswer
-    ensures { result ≡ recordAnswer (recordOf limit bytes.now) }
+    ensures { result ≡ record_answer (record_of limit bytes.now) }
 {
     let answer = sample_record::record_in(bytes, limit);
     match answer {

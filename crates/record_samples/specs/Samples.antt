@@ -5,11 +5,11 @@ use Rattle.std.specs.Float.Ieee.{of_bits}
 use Rattle.little_endian.specs.Words.{words}
 
 -- every bit pattern of a NaN is the one `nan`
-abbrev pub samplesOf : List ℕ → List Float
-samplesOf bytes = map (of_bits binary32) (words (drop 20 bytes))
+abbrev pub samples_of : List ℕ → List Float
+samples_of bytes = map (of_bits binary32) (words (drop 20 bytes))
 
 -- what a buffer holds after the samples are copied into it: as many as there are and as it has room for, then what it held
 abbrev pub copied : List ℕ → List Float → List Float
 copied bytes buffer =
-    let count = min (length buffer) (length (samplesOf bytes)) in
-    take count (samplesOf bytes) ++ drop count buffer
+    let count = min (length buffer) (length (samples_of bytes)) in
+    take count (samples_of bytes) ++ drop count buffer

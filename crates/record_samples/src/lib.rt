@@ -1,12 +1,12 @@
 // The samples of a record, out of its bytes.
 ghost use Rattle.std.specs.Prelude.{◌≡◌, min, length};
-ghost use Rattle.record_samples.specs.Samples.{samplesOf, copied};
+ghost use Rattle.record_samples.specs.Samples.{samples_of, copied};
 
 use words_read::copy_floats;
 
 // How many samples are copied.
 fn copied_count(bytes: &[u8], room: usize) -> usize
-    ensures { result ≡ min room (length (samplesOf bytes.now)) }
+    ensures { result ≡ min room (length (samples_of bytes.now)) }
 {
     if bytes.len() < 20 {
         return 0;

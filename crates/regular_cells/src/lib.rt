@@ -5,10 +5,10 @@ ghost use Rattle.std.specs.Prelude.{◌≡◌, List, ℕ, ◌+◌, ◌*◌, ◌/
 ghost use Rattle.walk.specs.Walk.{bit};
 ghost use Rattle.packed_tables.specs.Unpacked.{unpacked, Edges};
 ghost use Rattle.lent_mesh.specs.declared.Counts.{Counts};
-ghost use Rattle.lent_mesh.specs.Stored.{inHand, CellOf, Coordinates};
+ghost use Rattle.lent_mesh.specs.Stored.{in_hand, CellOf, Coordinates};
 ghost use Rattle.index_cache.specs.Found.{CacheRoom};
-ghost use Rattle.held_visits.specs.CellMemory.{inCell, heldEdges};
-ghost use Rattle.regular_cells.specs.RegularCell.{isRegular, RegularOf, nameEdges};
+ghost use Rattle.held_visits.specs.CellMemory.{in_cell, held_edges};
+ghost use Rattle.regular_cells.specs.RegularCell.{is_regular, RegularOf, name_edges};
 
 use lent_mesh::Counts;
 
@@ -21,8 +21,8 @@ fn name_all(
     counts: Counts,
 ) -> Counts
     requires { Edges (unpacked (3 * triangles) list) × (3 * triangles ≤ 15) × (counts.written + 15 < 2 ^ 32) }
-    ensures by_index { (work : List ℕ) (layer row : ℕ) (b : List Float) → inHand (inCell work layer row current.now) b indices.new result
-        ≡ nameEdges (unpacked (3 * triangles) list) (inHand (inCell work layer row current.now) b indices.old counts) }
+    ensures by_index { (work : List ℕ) (layer row : ℕ) (b : List Float) → in_hand (in_cell work layer row current.now) b indices.new result
+        ≡ name_edges (unpacked (3 * triangles) list) (in_hand (in_cell work layer row current.now) b indices.old counts) }
     ensures made_value { (result.made ≡ counts.made) × (result.written ≡ counts.written + 3 * triangles) }
 {
     let made = counts.made;
@@ -51,7 +51,7 @@ fn is_absent(number: u32) -> u64
 
 // Whether a cell is regular: each term is the bit of an edge that is not as a regular cell has it.
 pub fn is_regular(regular: u64, current: &[u32; 12]) -> bool
-    ensures { result ≡ isRegular regular current.now }
+    ensures { result ≡ is_regular regular current.now }
 {
     let amiss = (1 - is_absent(current[0]))
         + 2 * is_absent(current[1])
@@ -85,8 +85,8 @@ pub fn regular_visits(
     requires cache_room { CacheRoom n layer row work.old }
     requires coordinates { Coordinates n coordinates.now × RegularOf regular word current.old }
     requires made_nonzero { (0 < counts.made) × (counts.made ≤ counts.written) × (counts.written + 15 < 2 ^ 32) }
-    ensures result_after { inHand (inCell work.new layer row current.new) vertices.new indices.new result
-        ≡ heldEdges n samples.now x y z (unpacked (3 * (word / 2 ^ 60)) (word % 2 ^ 60)) (inHand (inCell work.old layer row current.old) vertices.old indices.old counts) }
+    ensures result_after { in_hand (in_cell work.new layer row current.new) vertices.new indices.new result
+        ≡ held_edges n samples.now x y z (unpacked (3 * (word / 2 ^ 60)) (word % 2 ^ 60)) (in_hand (in_cell work.old layer row current.old) vertices.old indices.old counts) }
     ensures written_value { (result.written ≡ counts.written + 3 * (word / 2 ^ 60)) × (result.made ≤ result.written) }
 {
     regular_edges::make_regular(

@@ -8,39 +8,39 @@ use Rattle.marching_cubes_tables.specs.Rule.{bit_at}
 use Rattle.walk_models.specs.Lent.{Lent}
 use Rattle.walk_models.specs.CacheMemory.{CacheMemory}
 use Rattle.packed_tables.specs.Regular.{rank_of}
-use Rattle.held_visits.specs.CellMemory.{numberEdge}
-use Rattle.regular_edges.specs.RegularEdges.{namedEdge, twoEdges, lowerEdges, regularEdges}
+use Rattle.held_visits.specs.CellMemory.{number_edge}
+use Rattle.regular_edges.specs.RegularEdges.{named_edge, two_edges, lower_edges, regular_edges}
 
 abbrev State : Type 0
 State = Lent CacheMemory (List Float)
 
 module _ (n : ℕ) (samples : List Float) (x y z regular made : ℕ) where
-  pub named-there : (e : ℕ) (s t : State) → bit_at regular e ≡ 1 → t ≡ numberEdge n samples x y z e (made + rank_of regular e) s
-      → t ≡ namedEdge n samples x y z regular made e s
-  unfolding namedEdge
+  pub named-there : (e : ℕ) (s t : State) → bit_at regular e ≡ 1 → t ≡ number_edge n samples x y z e (made + rank_of regular e) s
+      → t ≡ named_edge n samples x y z regular made e s
+  unfolding named_edge
   named-there e s t h q = q ∙ rw (eq-eqb (bit_at regular e) 1 h)
 
-  pub named-absent : (e : ℕ) (s : State) → (bit_at regular e ≡ 1 → ⊥) → s ≡ namedEdge n samples x y z regular made e s
-  unfolding namedEdge
+  pub named-absent : (e : ℕ) (s : State) → (bit_at regular e ≡ 1 → ⊥) → s ≡ named_edge n samples x y z regular made e s
+  unfolding named_edge
   named-absent e s h = rw (ne_eqb (bit_at regular e) 1 h)
 
   abbrev step : ℕ → State → State
-  step = namedEdge n samples x y z regular made
+  step = named_edge n samples x y z regular made
 
   abbrev two : ℕ → ℕ → State → State
-  two = twoEdges n samples x y z regular made
+  two = two_edges n samples x y z regular made
 
   abbrev lower : State → State
-  lower = lowerEdges n samples x y z regular made
+  lower = lower_edges n samples x y z regular made
 
   pub two-named : (i j : ℕ) (s t u : State) → t ≡ step i s → u ≡ step j t → u ≡ two i j s
-  unfolding twoEdges
+  unfolding two_edges
   two-named i j s t u et eu = eu ∙ ap (step j) et
 
   pub lower-named : (s t u : State) → t ≡ two 0 5 s → u ≡ two 6 7 t → u ≡ lower s
-  unfolding lowerEdges
+  unfolding lower_edges
   lower-named s t u et eu = eu ∙ ap (two 6 7) et
 
-  pub six-named : (s t u : State) → t ≡ lower s → u ≡ two 10 11 t → u ≡ regularEdges n samples x y z regular made s
-  unfolding regularEdges
+  pub six-named : (s t u : State) → t ≡ lower s → u ≡ two 10 11 t → u ≡ regular_edges n samples x y z regular made s
+  unfolding regular_edges
   six-named s t u et eu = eu ∙ ap (two 10 11) et

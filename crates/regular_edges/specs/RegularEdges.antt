@@ -4,20 +4,20 @@ use Rattle.std.specs.Prelude.{cond, List, ℕ, ◌+◌, Float}
 use Rattle.walk_models.specs.Lent.{Lent}
 use Rattle.walk_models.specs.CacheMemory.{CacheMemory}
 use Rattle.packed_tables.specs.Regular.{names, rank_of}
-use Rattle.held_visits.specs.CellMemory.{numberEdge}
+use Rattle.held_visits.specs.CellMemory.{number_edge}
 
 -- over lent lists, for a grid of size n and the cell (x, y, z)
 module _ (n : ℕ) (samples : List Float) (x y z : ℕ) where
   -- if the word names it, by its rank from the number `made` on
-  unfoldable pub namedEdge : ℕ → ℕ → ℕ → Lent CacheMemory (List Float) → Lent CacheMemory (List Float)
-  namedEdge regular made e s = cond (names regular e) (numberEdge n samples x y z e (made + rank_of regular e) s) s
+  unfoldable pub named_edge : ℕ → ℕ → ℕ → Lent CacheMemory (List Float) → Lent CacheMemory (List Float)
+  named_edge regular made e s = cond (names regular e) (number_edge n samples x y z e (made + rank_of regular e) s) s
 
-  unfoldable pub twoEdges : ℕ → ℕ → ℕ → ℕ → Lent CacheMemory (List Float) → Lent CacheMemory (List Float)
-  twoEdges regular made a b s = namedEdge regular made b (namedEdge regular made a s)
+  unfoldable pub two_edges : ℕ → ℕ → ℕ → ℕ → Lent CacheMemory (List Float) → Lent CacheMemory (List Float)
+  two_edges regular made a b s = named_edge regular made b (named_edge regular made a s)
 
   -- the edges that a regular cell can make: those before edge 10, and all six
-  unfoldable pub lowerEdges : ℕ → ℕ → Lent CacheMemory (List Float) → Lent CacheMemory (List Float)
-  lowerEdges regular made s = twoEdges regular made 6 7 (twoEdges regular made 0 5 s)
+  unfoldable pub lower_edges : ℕ → ℕ → Lent CacheMemory (List Float) → Lent CacheMemory (List Float)
+  lower_edges regular made s = two_edges regular made 6 7 (two_edges regular made 0 5 s)
 
-  unfoldable pub regularEdges : ℕ → ℕ → Lent CacheMemory (List Float) → Lent CacheMemory (List Float)
-  regularEdges regular made s = twoEdges regular made 10 11 (lowerEdges regular made s)
+  unfoldable pub regular_edges : ℕ → ℕ → Lent CacheMemory (List Float) → Lent CacheMemory (List Float)
+  regular_edges regular made s = two_edges regular made 10 11 (lower_edges regular made s)

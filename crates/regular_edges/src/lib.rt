@@ -2,10 +2,10 @@
 // names and gives each its rank, so that they are made in the order of the edges, each by constants.
 ghost use Rattle.std.specs.Prelude.{◌≡◌, List, ℕ, ◌+◌, ◌^◌, ◌<◌};
 ghost use Rattle.lent_mesh.specs.declared.Counts.{Counts};
-ghost use Rattle.lent_mesh.specs.Stored.{inHand, CellOf, Coordinates};
+ghost use Rattle.lent_mesh.specs.Stored.{in_hand, CellOf, Coordinates};
 ghost use Rattle.index_cache.specs.Found.{CacheRoom};
-ghost use Rattle.held_visits.specs.CellMemory.{inCell};
-ghost use Rattle.regular_edges.specs.RegularEdges.{namedEdge, twoEdges, lowerEdges, regularEdges};
+ghost use Rattle.held_visits.specs.CellMemory.{in_cell};
+ghost use Rattle.regular_edges.specs.RegularEdges.{named_edge, two_edges, lower_edges, regular_edges};
 
 // The edge is made if the word names it, with the number that its rank gives it.
 fn make_named(
@@ -27,8 +27,8 @@ fn make_named(
     requires cell_of { CellOf samples.now n x y z }
     requires cache_room { CacheRoom n layer row work.old }
     requires edge_bound { (edge < 12) × Coordinates n coordinates.now × (made + 15 < 2 ^ 32) }
-    ensures { (is : List ℕ) (c : Counts) → inHand (inCell work.new layer row current.new) vertices.new is c
-        ≡ namedEdge n samples.now x y z regular made edge (inHand (inCell work.old layer row current.old) vertices.old is c) }
+    ensures { (is : List ℕ) (c : Counts) → in_hand (in_cell work.new layer row current.new) vertices.new is c
+        ≡ named_edge n samples.now x y z regular made edge (in_hand (in_cell work.old layer row current.old) vertices.old is c) }
 {
     if (regular >> edge) % 2 == 1 {
         let rank = ((regular >> (16 + 4 * edge)) % 16) as u32;
@@ -72,8 +72,8 @@ fn make_two(
     requires cache_room { CacheRoom n layer row work.old }
     requires first_bound { (first < 12) × (second < 12) }
     requires coordinates { Coordinates n coordinates.now × (made + 15 < 2 ^ 32) }
-    ensures { (is : List ℕ) (c : Counts) → inHand (inCell work.new layer row current.new) vertices.new is c
-        ≡ twoEdges n samples.now x y z regular made first second (inHand (inCell work.old layer row current.old) vertices.old is c) }
+    ensures { (is : List ℕ) (c : Counts) → in_hand (in_cell work.new layer row current.new) vertices.new is c
+        ≡ two_edges n samples.now x y z regular made first second (in_hand (in_cell work.old layer row current.old) vertices.old is c) }
 {
     make_named(
         samples,
@@ -128,8 +128,8 @@ fn make_lower(
     requires cell_of { CellOf samples.now n x y z }
     requires cache_room { CacheRoom n layer row work.old }
     requires coordinates { Coordinates n coordinates.now × (made + 15 < 2 ^ 32) }
-    ensures { (is : List ℕ) (c : Counts) → inHand (inCell work.new layer row current.new) vertices.new is c
-        ≡ lowerEdges n samples.now x y z regular made (inHand (inCell work.old layer row current.old) vertices.old is c) }
+    ensures { (is : List ℕ) (c : Counts) → in_hand (in_cell work.new layer row current.new) vertices.new is c
+        ≡ lower_edges n samples.now x y z regular made (in_hand (in_cell work.old layer row current.old) vertices.old is c) }
 {
     make_two(
         samples,
@@ -186,8 +186,8 @@ pub fn make_regular(
     requires cell_of { CellOf samples.now n x y z }
     requires cache_room { CacheRoom n layer row work.old }
     requires coordinates { Coordinates n coordinates.now × (made + 15 < 2 ^ 32) }
-    ensures { (is : List ℕ) (c : Counts) → inHand (inCell work.new layer row current.new) vertices.new is c
-        ≡ regularEdges n samples.now x y z regular made (inHand (inCell work.old layer row current.old) vertices.old is c) }
+    ensures { (is : List ℕ) (c : Counts) → in_hand (in_cell work.new layer row current.new) vertices.new is c
+        ≡ regular_edges n samples.now x y z regular made (in_hand (in_cell work.old layer row current.old) vertices.old is c) }
 {
     make_lower(
         samples,

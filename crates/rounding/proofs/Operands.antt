@@ -11,19 +11,19 @@ use lib.Ieee.{Float, nan, inf, fin, binary32, up, down, unlike, round, sum, add,
 use lib.Ieee.Fits.{down_pos}
 use lib.Ieee.Scale.{round_same}
 use lib.Ieee.Positive.{first_pos}
-use Rattle.rounding.proofs.Units.{unitsOfOne, HasUnits, one-pos}
+use Rattle.rounding.proofs.Units.{units_of_one, HasUnits, one-pos}
 use Rattle.rounding.proofs.Signs.{fraction-pos}
 
 -- ---- products and quotients of digits and exponents
 
-module _ (s t : Bool) (m n : ℕ) (e d : ℤ) (A B : ℕ) (hx : m * up e * unitsOfOne ≡ A * down e) (hy : n * up d * unitsOfOne ≡ B * down d) where
-  mul-fin : mul binary32 (fin s m e) (fin t n d) ≡ round binary32 (unlike s t) (A * B) (unitsOfOne * unitsOfOne)
+module _ (s t : Bool) (m n : ℕ) (e d : ℤ) (A B : ℕ) (hx : m * up e * units_of_one ≡ A * down e) (hy : n * up d * units_of_one ≡ B * down d) where
+  mul-fin : mul binary32 (fin s m e) (fin t n d) ≡ round binary32 (unlike s t) (A * B) (units_of_one * units_of_one)
   unfolding mul
   mul-fin =
-      round_same binary32 (unlike s t) (m * up e * (n * up d)) (down e * down d) (A * B) (unitsOfOne * unitsOfOne)
+      round_same binary32 (unlike s t) (m * up e * (n * up d)) (down e * down d) (A * B) (units_of_one * units_of_one)
       (mul-pos (down_pos e) (down_pos d)) (mul-pos one-pos one-pos)
-      (mul-mul-mul_comm (m * up e) (n * up d) unitsOfOne unitsOfOne
-      ∙ ap (λ (z : ℕ). z * (n * up d * unitsOfOne)) hx
+      (mul-mul-mul_comm (m * up e) (n * up d) units_of_one units_of_one
+      ∙ ap (λ (z : ℕ). z * (n * up d * units_of_one)) hx
       ∙ ap (λ (z : ℕ). A * down e * z) hy
       ∙ mul-mul-mul_comm A (down e) B (down d))
 
@@ -41,11 +41,11 @@ module _ (s t : Bool) (m n : ℕ) (e d : ℤ) (A B : ℕ) (hx : m * up e * units
       tested true k p = absurd (lt_irrefl 0 (subst (λ (z : ℕ). 0 < z) (k tt) p))
       tested false k p = refl
 
-      cross : (x de y dd : ℕ) → x * unitsOfOne ≡ A * de → y * unitsOfOne ≡ B * dd → x * dd * B ≡ A * (y * de)
+      cross : (x de y dd : ℕ) → x * units_of_one ≡ A * de → y * units_of_one ≡ B * dd → x * dd * B ≡ A * (y * de)
       cross x de y dd h k =
-          eq_of_mul-eq-mul_right unitsOfOne one-pos (x * dd * B) (A * (y * de))
-          (let p : x * unitsOfOne * (dd * B) ≡ A * de * (dd * B) = ap (λ (z : ℕ). z * (dd * B)) h in
-          let q : y * unitsOfOne * (A * de) ≡ B * dd * (A * de) = ap (λ (z : ℕ). z * (A * de)) k in
+          eq_of_mul-eq-mul_right units_of_one one-pos (x * dd * B) (A * (y * de))
+          (let p : x * units_of_one * (dd * B) ≡ A * de * (dd * B) = ap (λ (z : ℕ). z * (dd * B)) h in
+          let q : y * units_of_one * (A * de) ≡ B * dd * (A * de) = ap (λ (z : ℕ). z * (A * de)) k in
           omega arith)
 
 -- ---- a sum depends on the sizes alone: a / c = A / d and b / c = B / d
@@ -87,18 +87,18 @@ sum-scale s t a b c A B d C D ha hb =
       ltb-scale b a c B A d C D hb ha,
     )
 
-add-fin : (s t : Bool) (m n : ℕ) (e d : ℤ) (A B : ℕ) → m * up e * unitsOfOne ≡ A * down e → n * up d * unitsOfOne ≡ B * down d
-    → add binary32 (fin s m e) (fin t n d) ≡ sum binary32 s A t B unitsOfOne
+add-fin : (s t : Bool) (m n : ℕ) (e d : ℤ) (A B : ℕ) → m * up e * units_of_one ≡ A * down e → n * up d * units_of_one ≡ B * down d
+    → add binary32 (fin s m e) (fin t n d) ≡ sum binary32 s A t B units_of_one
 unfolding add
 add-fin s t m n e d A B hx hy =
-    sum-scale s t (m * up e * down d) (n * up d * down e) (down e * down d) A B unitsOfOne (mul-pos (down_pos e) (down_pos d)) one-pos
+    sum-scale s t (m * up e * down d) (n * up d * down e) (down e * down d) A B units_of_one (mul-pos (down_pos e) (down_pos d)) one-pos
     (first (m * up e) (down e) A (down d) hx) (second (n * up d) (down d) B (down e) hy)
   where
-    first : (x de u dd : ℕ) → x * unitsOfOne ≡ u * de → x * dd * unitsOfOne ≡ u * (de * dd)
-    first x de u dd h = let p : x * unitsOfOne * dd ≡ u * de * dd = ap (λ (z : ℕ). z * dd) h in omega arith
+    first : (x de u dd : ℕ) → x * units_of_one ≡ u * de → x * dd * units_of_one ≡ u * (de * dd)
+    first x de u dd h = let p : x * units_of_one * dd ≡ u * de * dd = ap (λ (z : ℕ). z * dd) h in omega arith
 
-    second : (x de u dd : ℕ) → x * unitsOfOne ≡ u * de → x * dd * unitsOfOne ≡ u * (dd * de)
-    second x de u dd h = let p : x * unitsOfOne * dd ≡ u * de * dd = ap (λ (z : ℕ). z * dd) h in omega arith
+    second : (x de u dd : ℕ) → x * units_of_one ≡ u * de → x * dd * units_of_one ≡ u * (dd * de)
+    second x de u dd h = let p : x * units_of_one * dd ≡ u * de * dd = ap (λ (z : ℕ). z * dd) h in omega arith
 
 -- ---- for values in units
 
@@ -106,7 +106,7 @@ record Parts (x : Float) (s : Bool) (u : ℕ) : Type 0 where
   digits : ℕ
   exponent : ℤ
   written : x ≡ fin s digits exponent
-  size : digits * up exponent * unitsOfOne ≡ u * down exponent
+  size : digits * up exponent * units_of_one ≡ u * down exponent
 
 parts : (x : Float) (s : Bool) (u : ℕ) → HasUnits x s u → Parts x s u
 parts nan s u h = absurd h
@@ -123,11 +123,11 @@ module _ (x y : Float) (s t : Bool) (A B : ℕ) (hx : HasUnits x s A) (hy : HasU
   written : (f : Float → Float → Float) → f x y ≡ f (fin s p.digits p.exponent) (fin t q.digits q.exponent)
   written f = ap (λ (z : Float). f z y) p.written ∙ ap (λ (z : Float). f (fin s p.digits p.exponent) z) q.written
 
-  pub mul_is : mul binary32 x y ≡ round binary32 (unlike s t) (A * B) (unitsOfOne * unitsOfOne)
+  pub mul_is : mul binary32 x y ≡ round binary32 (unlike s t) (A * B) (units_of_one * units_of_one)
   mul_is = written (mul binary32) ∙ mul-fin s t p.digits q.digits p.exponent q.exponent A B p.size q.size
 
   pub div_is : 0 < B → div binary32 x y ≡ round binary32 (unlike s t) A B
   div_is some = written (div binary32) ∙ div-fin s t p.digits q.digits p.exponent q.exponent A B p.size q.size some
 
-  pub add_is : add binary32 x y ≡ sum binary32 s A t B unitsOfOne
+  pub add_is : add binary32 x y ≡ sum binary32 s A t B units_of_one
   add_is = written (add binary32) ∙ add-fin s t p.digits q.digits p.exponent q.exponent A B p.size q.size

@@ -12,7 +12,7 @@ use lib.Ieee.Fits.{down_pos, eq→eqb, and_l}
 use lib.Ieee.Order.{transfer}
 use lib.Ieee.Positive.{first_pos}
 use lib.Ieee.Scale.{finite}
-use Rattle.rounding.proofs.Units.{unitsOfOne, HasUnits, one-pos}
+use Rattle.rounding.proofs.Units.{units_of_one, HasUnits, one-pos}
 
 -- x is `units` from zero on the side `minus`; a zero may bear either sign
 pub record OnSide (minus : Bool) (x : Float) (units : ℕ) : Type 0 where
@@ -55,17 +55,17 @@ neg-side s x u o =
 -- ---- comparisons
 
 -- as many units, as large a fraction
-pub fraction-pos : (x u d : ℕ) → 0 < u → 0 < d → x * unitsOfOne ≡ u * d → 0 < x
-fraction-pos x u d p q h = first_pos x unitsOfOne (subst (λ (z : ℕ). 0 < z) (sym h) (mul-pos p q))
+pub fraction-pos : (x u d : ℕ) → 0 < u → 0 < d → x * units_of_one ≡ u * d → 0 < x
+fraction-pos x u d p q h = first_pos x units_of_one (subst (λ (z : ℕ). 0 < z) (sym h) (mul-pos p q))
 
-fraction-zero : (x u d : ℕ) → u ≡ 0 → x * unitsOfOne ≡ u * d → x ≡ 0
+fraction-zero : (x u d : ℕ) → u ≡ 0 → x * units_of_one ≡ u * d → x ≡ 0
 fraction-zero x u d z h =
     elim (eq-zero-or-pos x) [
       | inl y ↦ y
       | inr p ↦ absurd (not-le_of_lt (mul-pos p one-pos) (le_of_eq (h ∙ ap (λ (w : ℕ). w * d) z ∙ zero-mul d)))
     ]
 
-units-zero : (x u d : ℕ) → 0 < d → x ≡ 0 → x * unitsOfOne ≡ u * d → u ≡ 0
+units-zero : (x u d : ℕ) → 0 < d → x ≡ 0 → x * units_of_one ≡ u * d → u ≡ 0
 units-zero x u d q z h =
     elim (eq-zero-or-pos u) [
       | inl y ↦ y
@@ -130,17 +130,17 @@ le-of-side (fin s m e) (fin t n d) a b o p h =
     not-below s t (m * up e * down d) (n * up d * down e)
     (elim o.side [ inl q ↦ inl (o.value.0 ∙ q) | inr z ↦ inr (times_zero (m * up e) (down d) (first z x)) ])
     (elim p.side [ inl q ↦ inl (p.value.0 ∙ q) | inr z ↦ inr (times_zero (n * up d) (down e) (second z y)) ])
-    (transfer (m * up e) (n * up d) (down e) (down d) a b unitsOfOne unitsOfOne one-pos one-pos x y (mul-le-mul_right unitsOfOne h))
+    (transfer (m * up e) (n * up d) (down e) (down d) a b units_of_one units_of_one one-pos one-pos x y (mul-le-mul_right units_of_one h))
   where
     times_zero : (x d : ℕ) → x ≡ 0 → x * d ≡ 0
     times_zero x d z = ap (λ (w : ℕ). w * d) z ∙ zero-mul d
 
 -- ---- comparisons with 0.0
 
-abbrev pub plusZero : Float
-plusZero = fin false 0 (pos 0)
+abbrev pub plus_zero : Float
+plus_zero = fin false 0 (pos 0)
 
-pub not-equal-zero : (x : Float) (s : Bool) (u : ℕ) → HasUnits x s u → 0 < u → eq x plusZero ≡ false
+pub not-equal-zero : (x : Float) (s : Bool) (u : ℕ) → HasUnits x s u → 0 < u → eq x plus_zero ≡ false
 unfolding eq
 not-equal-zero nan s u h p = absurd h
 not-equal-zero (inf t) s u h p = absurd h
@@ -155,11 +155,11 @@ not-equal-zero (fin t m e) s u h p =
     go false c f = refl
 
 -- a value that is not <= 0.0 is above zero
-pub above_zero : (x : Float) (s : Bool) (u : ℕ) → HasUnits x s u → T (not (le x plusZero)) → HasUnits x false u × (0 < u)
+pub above_zero : (x : Float) (s : Bool) (u : ℕ) → HasUnits x s u → T (not (le x plus_zero)) → HasUnits x false u × (0 < u)
 unfolding le
 above_zero nan s u h t = absurd h
 above_zero (inf r) s u h t = absurd h
-above_zero (fin true m e) s u h t = absurd (T_not (le (fin true m e) plusZero) t (negative (m * up e * 1) (0 * down e) (zero-mul (down e))))
+above_zero (fin true m e) s u h t = absurd (T_not (le (fin true m e) plus_zero) t (negative (m * up e * 1) (0 * down e) (zero-mul (down e))))
   where
     negative : (x y : ℕ) → y ≡ 0 → T (below true x false y || level true x false y)
     negative x y z =
@@ -171,12 +171,12 @@ above_zero (fin false m e) s u h t =
     elim (eq-zero-or-pos u) [
       | inl z ↦
           let none : m * up e * 1 ≡ 0 = mul-one (m * up e) ∙ fraction-zero (m * up e) u (down e) z h.1 in
-          absurd (T_not (le (fin false m e) plusZero) t (zeros-level false false (m * up e * 1) (0 * down e) none (zero-mul (down e))))
+          absurd (T_not (le (fin false m e) plus_zero) t (zeros-level false false (m * up e * 1) (0 * down e) none (zero-mul (down e))))
       | inr p ↦ ((refl, h.1), p)
     ]
 
 -- a value that is <= 0.0 is not above zero
-pub upto_zero : (x : Float) (s : Bool) (u : ℕ) → HasUnits x s u → T (le x plusZero) → OnSide true x u
+pub upto_zero : (x : Float) (s : Bool) (u : ℕ) → HasUnits x s u → T (le x plus_zero) → OnSide true x u
 unfolding le
 upto_zero nan s u h t = absurd h
 upto_zero (inf r) s u h t = absurd h

@@ -13,7 +13,7 @@ use lib.Ieee.Digits.{back}
 use lib.Ieee.Fits.{up_pos, and_l, and_r}
 use lib.Ieee.Scale.{finite}
 use Rattle.rounding.proofs.Nearness.{ulps}
-use Rattle.rounding.proofs.Units.{unitsOfOne, safeUnits, HasUnits, Representable, safe-large, round-units, rounded-exact}
+use Rattle.rounding.proofs.Units.{units_of_one, safe_units, HasUnits, Representable, safe-large, round-units, rounded-exact}
 
 -- ---- a finite f32
 
@@ -23,9 +23,9 @@ pub record ValueOf (x : Float) : Type 0 where
   pub value : HasUnits x sign units
   pub representable : Representable units
 
-unitsOf : ℕ → ℤ → ℕ
-unitsOf m (pos k) = m * 2 ^ (k + 149)
-unitsOf m (negsuc k) = m * 2 ^ (149 - suc k)
+units_of : ℕ → ℤ → ℕ
+units_of m (pos k) = m * 2 ^ (k + 149)
+units_of m (negsuc k) = m * 2 ^ (149 - suc k)
 
 low-exponent : (k : ℕ) → 2 ^ suc k ≤ 2 ^ 149 → suc k ≤ 149
 low-exponent k h = tested (leb (suc k) 149) (leb→le (suc k) 149) (nleb→lt (suc k) 149)
@@ -34,18 +34,18 @@ low-exponent k h = tested (leb (suc k) 149) (leb→le (suc k) 149) (nleb→lt (s
     tested true f g = f tt
     tested false f g = absurd (not-le_of_lt (pow-lt (g tt)) h)
 
-unitsOf-size : (m : ℕ) (e : ℤ) → down e ≤ 2 ^ 149 → m * up e * unitsOfOne ≡ unitsOf m e * down e
-unfolding unitsOf unitsOfOne
-unitsOf-size m (pos k) h = mul_assoc m (2 ^ k) (2 ^ 149) ∙ ap (λ (z : ℕ). m * z) (sym (pow-add 2 k 149)) ∙ sym (mul-one (m * 2 ^ (k + 149)))
-unitsOf-size m (negsuc k) h =
+units_of-size : (m : ℕ) (e : ℤ) → down e ≤ 2 ^ 149 → m * up e * units_of_one ≡ units_of m e * down e
+unfolding units_of units_of_one
+units_of-size m (pos k) h = mul_assoc m (2 ^ k) (2 ^ 149) ∙ ap (λ (z : ℕ). m * z) (sym (pow-add 2 k 149)) ∙ sym (mul-one (m * 2 ^ (k + 149)))
+units_of-size m (negsuc k) h =
     ap (λ (z : ℕ). z * 2 ^ 149) (mul-one m)
     ∙ ap (λ (z : ℕ). m * z) (ap (λ (z : ℕ). 2 ^ z) (sym (back 149 (suc k) (low-exponent k h))) ∙ pow-add 2 (149 - suc k) (suc k))
     ∙ sym (mul_assoc m (2 ^ (149 - suc k)) (2 ^ suc k))
 
-unitsOf-representable : (m : ℕ) (e : ℤ) → m < ulps → Representable (unitsOf m e)
-unfolding unitsOf
-unitsOf-representable m (pos k) h = record { digits = m; zeros = k + 149; digits_lt = h; written = refl }
-unitsOf-representable m (negsuc k) h = record { digits = m; zeros = 149 - suc k; digits_lt = h; written = refl }
+units_of-representable : (m : ℕ) (e : ℤ) → m < ulps → Representable (units_of m e)
+unfolding units_of
+units_of-representable m (pos k) h = record { digits = m; zeros = k + 149; digits_lt = h; written = refl }
+units_of-representable m (negsuc k) h = record { digits = m; zeros = 149 - suc k; digits_lt = h; written = refl }
 
 -- what `fits` says: at most 24 digits, and no place below 2 ^ -149
 small-of-fits : (s : Bool) (m : ℕ) (e : ℤ) → T (fits binary32 (fin s m e)) → (m < ulps) × (down e ≤ 2 ^ 149)
@@ -73,30 +73,30 @@ value-of-fits (fin s m e) f t =
     let small = small-of-fits s m e f in
     record {
       sign = s;
-      units = unitsOf m e;
-      value = (refl, unitsOf-size m e small.1);
-      representable = unitsOf-representable m e small.0;
+      units = units_of m e;
+      value = (refl, units_of-size m e small.1);
+      representable = units_of-representable m e small.0;
     }
 
 -- ---- a whole number
 
 module _ (n : ℕ) (small : n < ulps) where
-  whole-representable : Representable (n * unitsOfOne)
-  unfolding unitsOfOne
+  whole-representable : Representable (n * units_of_one)
+  unfolding units_of_one
   whole-representable = record { digits = n; zeros = 149; digits_lt = small; written = refl }
 
-  whole-safe : n * unitsOfOne ≤ safeUnits
-  whole-safe = le_trans (mul-le-mul_right unitsOfOne (omega arith)) safe-large
+  whole-safe : n * units_of_one ≤ safe_units
+  whole-safe = le_trans (mul-le-mul_right units_of_one (omega arith)) safe-large
 
-  pub whole-units : HasUnits (of_int binary32 (pos n)) false (n * unitsOfOne)
+  pub whole-units : HasUnits (of_int binary32 (pos n)) false (n * units_of_one)
   unfolding of_int
   whole-units =
-      let exact = rounded-exact n 1 (n * unitsOfOne) (lit< tt) whole-representable whole-safe (sym (mul-one (n * unitsOfOne))) in
+      let exact = rounded-exact n 1 (n * units_of_one) (lit< tt) whole-representable whole-safe (sym (mul-one (n * units_of_one))) in
       subst (λ (z : ℕ). HasUnits (round binary32 false n 1) false z) exact
-      (round-units false n 1 (lit< tt) (le_trans whole-safe (le_of_eq (sym (mul-one safeUnits)))))
+      (round-units false n 1 (lit< tt) (le_trans whole-safe (le_of_eq (sym (mul-one safe_units)))))
 
-pub one-units : HasUnits (fin false 1 (pos 0)) false unitsOfOne
-one-units = (refl, ap (λ (z : ℕ). z * unitsOfOne) (mul-one 1) ∙ mul_comm 1 unitsOfOne)
+pub one-units : HasUnits (fin false 1 (pos 0)) false units_of_one
+one-units = (refl, ap (λ (z : ℕ). z * units_of_one) (mul-one 1) ∙ mul_comm 1 units_of_one)
 
 pub zero-units : HasUnits (fin false 0 (pos 0)) false 0
-zero-units = (refl, zero-mul unitsOfOne)
+zero-units = (refl, zero-mul units_of_one)

@@ -1,14 +1,14 @@
 -- What each function of the count may rely on. A private model, which only the contracts of this crate and of grid_count cite; nobody need believe it.
 use Rattle.std.specs.Prelude.{◌≡◌, List, ℕ, ◌+◌, ◌^◌, ◌≤◌, ◌<◌, length}
-use Rattle.packed_tables.specs.Packed.{newWords}
+use Rattle.packed_tables.specs.Packed.{new_words}
 use Rattle.lent_mesh.specs.declared.Counts.{Counts}
-use Rattle.held_bits.specs.Names.{nameWords}
-use Rattle.held_bits.specs.HeldCell.{heldRoom}
+use Rattle.held_bits.specs.Names.{name_words}
+use Rattle.held_bits.specs.HeldCell.{held_room}
 
 -- the tables that are made once and lent
 pub record Tables (news names : List ℕ) : Type 0 where
-  pub news-are : news ≡ newWords
-  pub names-are : names ≡ nameWords
+  pub news-are : news ≡ new_words
+  pub names-are : names ≡ name_words
 
 -- row y is one of the rows of a grid of size n
 pub record RowIn (n y : ℕ) : Type 0 where
@@ -18,6 +18,6 @@ pub record RowIn (n y : ℕ) : Type 0 where
 
 -- the working memory is long enough for the words that are kept, and so many more indices can be counted
 pub record Countable (n : ℕ) (work : List ℕ) (more : ℕ) (counts : Counts) : Type 0 where
-  pub enough : heldRoom n ≤ length work
+  pub enough : held_room n ≤ length work
   pub ordered : counts.made ≤ counts.written
   pub fits : counts.written + more < 2 ^ 32

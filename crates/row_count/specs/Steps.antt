@@ -2,19 +2,19 @@
 -- Countable.antt; `proofs/CountedMesh.antt` of grid_count proves that it comes to the defined mesh.
 use Rattle.std.specs.Prelude.{cond, ℕ, eqb, get_or}
 use Rattle.walk.specs.Walk.{Inside, signs}
-use Rattle.walk_models.specs.Owned.{Count, countCell}
-use Rattle.row_walk.specs.Steps.{layerParity, rowParity}
-use Rattle.held_bits.specs.Names.{nameWords}
-use Rattle.held_bits.specs.HeldCell.{Held, heldCell}
+use Rattle.walk_models.specs.Owned.{Count, count_cell}
+use Rattle.row_walk.specs.Steps.{layer_parity, row_parity}
+use Rattle.held_bits.specs.Names.{name_words}
+use Rattle.held_bits.specs.HeldCell.{Held, held_cell}
 
-abbrev pub countIn : Held → Count
-countIn s = record { made = s.made; written = s.written }
+abbrev pub count_in : Held → Count
+count_in s = record { made = s.made; written = s.written }
 
-abbrev pub withCount : Held → Count → Held
-withCount s c = record { work = s.work; made = c.made; written = c.written }
+abbrev pub with_count : Held → Count → Held
+with_count s c = record { work = s.work; made = c.made; written = c.written }
 
 module _ (numbering n : ℕ) (g : Inside) where
-  unfoldable pub countStep : ℕ → ℕ → ℕ → Held → Held
-  countStep z y x s =
-      cond (eqb numbering 0) (heldCell n (layerParity z) (rowParity n z y) x y (get_or nameWords (signs g x y z) 0) s)
-      (withCount s (countCell g z y x (countIn s)))
+  unfoldable pub count_step : ℕ → ℕ → ℕ → Held → Held
+  count_step z y x s =
+      cond (eqb numbering 0) (held_cell n (layer_parity z) (row_parity n z y) x y (get_or name_words (signs g x y z) 0) s)
+      (with_count s (count_cell g z y x (count_in s)))

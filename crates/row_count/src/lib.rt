@@ -3,15 +3,15 @@
 // numbering by its packed word.
 ghost use Rattle.std.specs.Prelude.{◌≡◌, ◌+◌, ◌-◌, ◌*◌, ◌≤◌, ◌<◌};
 ghost use Rattle.walk.specs.Walk.{Inside, signs, times};
-ghost use Rattle.walk_models.specs.Owned.{cellsOfRow};
-ghost use Rattle.lent_mesh.specs.Grid.{insideOf};
+ghost use Rattle.walk_models.specs.Owned.{cells_of_row};
+ghost use Rattle.lent_mesh.specs.Grid.{inside_of};
 ghost use Rattle.sign_words.specs.Words.{LayerWords};
-ghost use Rattle.sign_cells.specs.Cells.{QuadOf, cells_in, activeWord};
+ghost use Rattle.sign_cells.specs.Cells.{QuadOf, cells_in, active_word};
 ghost use Rattle.joined_slots.specs.OneCell.{class_of};
-ghost use Rattle.row_walk.specs.Steps.{rowParity};
+ghost use Rattle.row_walk.specs.Steps.{row_parity};
 ghost use Rattle.held_bits.specs.HeldCell.{held};
 ghost use Rattle.row_count.specs.Countable.{Tables, RowIn, Countable};
-ghost use Rattle.row_count.specs.Steps.{countStep};
+ghost use Rattle.row_count.specs.Steps.{count_step};
 
 use lent_mesh::Counts;
 use sign_cells::Quad;
@@ -34,9 +34,9 @@ fn count_cell(
 ) -> Counts
     requires tables { Tables news.now names.now }
     requires row_in { RowIn n y × (x + 1 < n) × (case < 256) }
-    requires class_value { (class ≡ class_of 1 y z) × (class ≤ 6) × (row ≡ rowParity n z y) }
+    requires class_value { (class ≡ class_of 1 y z) × (class ≤ 6) × (row ≡ row_parity n z y) }
     requires countable { Countable n work.old 15 counts }
-    ensures result_after { (g : Inside) → case ≡ signs g x y z → held work.new result ≡ countStep numbering n g z y x (held work.old counts) }
+    ensures result_after { (g : Inside) → case ≡ signs g x y z → held work.new result ≡ count_step numbering n g z y x (held work.old counts) }
     ensures written_bound { (result.written ≤ counts.written + 15) × (result.made ≤ result.written) }
 {
     if numbering == 0 {
@@ -67,10 +67,10 @@ fn count_word(
     counts: Counts,
 ) -> Counts
     requires tables { Tables news.now names.now }
-    requires row_in { RowIn n y × QuadOf n samples.now y z k quad × (mask ≡ activeWord n samples.now y z k) × (32 * k < n - 1) }
-    requires class_value { (class ≡ class_of 1 y z) × (class ≤ 6) × (row ≡ rowParity n z y) }
+    requires row_in { RowIn n y × QuadOf n samples.now y z k quad × (mask ≡ active_word n samples.now y z k) × (32 * k < n - 1) }
+    requires class_value { (class ≡ class_of 1 y z) × (class ≤ 6) × (row ≡ row_parity n z y) }
     requires countable { Countable n work.old 480 counts }
-    ensures result_after { held work.new result ≡ times (cells_in n k) (λ i t. countStep numbering n (insideOf n samples.now) z y (32 * k + i) t) (held work.old counts) }
+    ensures result_after { held work.new result ≡ times (cells_in n k) (λ i t. count_step numbering n (inside_of n samples.now) z y (32 * k + i) t) (held work.old counts) }
     ensures written_bound { (result.written ≤ counts.written + 480) × (result.made ≤ result.written) }
 {
     let mut made = counts.made;
@@ -117,10 +117,10 @@ pub fn count_row(
     counts: Counts,
 ) -> Counts
     requires tables { Tables news.now names.now }
-    requires row_in { RowIn n y × (row ≡ rowParity n z y) }
+    requires row_in { RowIn n y × (row ≡ row_parity n z y) }
     requires layer_words { LayerWords n samples.now z low.now × LayerWords n samples.now (z + 1) high.now }
     requires countable { Countable n work.old 1920 counts }
-    ensures result_after { held work.new result ≡ cellsOfRow (countStep numbering n (insideOf n samples.now)) n z y (n - 1) (held work.old counts) }
+    ensures result_after { held work.new result ≡ cells_of_row (count_step numbering n (inside_of n samples.now)) n z y (n - 1) (held work.old counts) }
     ensures written_bound { (result.written ≤ counts.written + 1920) × (result.made ≤ result.written) }
 {
     if sign_cells::outside(low, high, y) {

@@ -6,23 +6,23 @@ use native.Mathlib.Omega.{arith}
 use borrow.Author.Tests.{eq-eqb, ne_eqb}
 use lib.Ieee.{Float}
 use Rattle.walk.specs.Walk.{cell}
-use Rattle.walk_models.specs.Lent.{lentHooks}
-use Rattle.walk_models.specs.Owned.{ownedCell}
-use Rattle.walk_models.specs.CacheMemory.{crateMemory}
-use Rattle.lent_mesh.specs.Grid.{insideOf}
-use Rattle.lent_mesh.specs.Stored.{storeAt, CellOf}
-use Rattle.row_walk.specs.Steps.{Hand, border, unborder, layerParity, rowParity, cellStep}
+use Rattle.walk_models.specs.Lent.{lent_hooks}
+use Rattle.walk_models.specs.Owned.{owned_cell}
+use Rattle.walk_models.specs.CacheMemory.{crate_memory}
+use Rattle.lent_mesh.specs.Grid.{inside_of}
+use Rattle.lent_mesh.specs.Stored.{store_at, CellOf}
+use Rattle.row_walk.specs.Steps.{Hand, border, unborder, layer_parity, row_parity, cell_step}
 use Rattle.row_walk.specs.Ready.{LayerOf, RowOf}
 
 module _ (numbering n : ℕ) (samples : List Float) (z y x : ℕ) (s t : Hand) where
-  pub crate-step : (row : ℕ) → numbering ≡ 0 → row ≡ rowParity n z y
-      → border (layerParity z) row t ≡ cell (lentHooks (crateMemory n) (storeAt n samples)) (insideOf n samples) n z y x (border (layerParity z) row s)
-      → t ≡ cellStep numbering n samples z y x s
-  unfolding cellStep
+  pub crate-step : (row : ℕ) → numbering ≡ 0 → row ≡ row_parity n z y
+      → border (layer_parity z) row t ≡ cell (lent_hooks (crate_memory n) (store_at n samples)) (inside_of n samples) n z y x (border (layer_parity z) row s)
+      → t ≡ cell_step numbering n samples z y x s
+  unfolding cell_step
   crate-step row b r e = ap unborder e ∙ rw (eq-eqb numbering 0 b, r)
 
-  pub joined_step : (numbering ≡ 0 → ⊥) → t ≡ ownedCell (storeAt n samples) n (insideOf n samples) z y x s → t ≡ cellStep numbering n samples z y x s
-  unfolding cellStep
+  pub joined_step : (numbering ≡ 0 → ⊥) → t ≡ owned_cell (store_at n samples) n (inside_of n samples) z y x s → t ≡ cell_step numbering n samples z y x s
+  unfolding cell_step
   joined_step b e = e ∙ rw (ne_eqb numbering 0 b)
 
 pub parity-le : (k : ℕ) → k % 2 ≤ 1

@@ -1,16 +1,16 @@
 -- What each function of the walk may rely on, gathered by what it is about. A private model.
 use Rattle.std.specs.Prelude.{◌≡◌, List, ℕ, ◌+◌, ◌*◌, ◌^◌, ◌≤◌, ◌<◌, length, Float}
-use Rattle.packed_tables.specs.Packed.{rowWords, newWords}
-use Rattle.packed_tables.specs.Regular.{regularWords}
+use Rattle.packed_tables.specs.Packed.{row_words, new_words}
+use Rattle.packed_tables.specs.Regular.{regular_words}
 use Rattle.lent_mesh.specs.declared.Counts.{Counts}
 use Rattle.lent_mesh.specs.Stored.{Coordinates}
 use Rattle.joined_slots.specs.OneCell.{Slots}
 
 -- the tables that are made once and lent
 pub record Tables (n z : ℕ) (rows regulars news : List ℕ) (coordinates : List Float) (slots : List ℕ) : Type 0 where
-  pub rows_are : rows ≡ rowWords
-  pub regulars-are : regulars ≡ regularWords
-  pub news-are : news ≡ newWords
+  pub rows_are : rows ≡ row_words
+  pub regulars-are : regulars ≡ regular_words
+  pub news-are : news ≡ new_words
   pub coordinates-are : Coordinates n coordinates
   pub slots-are : Slots n z slots
 

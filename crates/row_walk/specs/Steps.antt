@@ -2,11 +2,11 @@
 -- that it comes to the defined mesh, and nobody need believe it.
 use Rattle.std.specs.Prelude.{cond, List, ℕ, ◌+◌, ◌-◌, ◌*◌, ◌%◌, eqb, replicate, Float}
 use Rattle.walk.specs.Walk.{cell}
-use Rattle.walk_models.specs.Lent.{Lent, lentHooks}
-use Rattle.walk_models.specs.Owned.{ownedCell}
-use Rattle.walk_models.specs.CacheMemory.{CacheMemory, crateMemory}
-use Rattle.lent_mesh.specs.Grid.{insideOf}
-use Rattle.lent_mesh.specs.Stored.{storeAt}
+use Rattle.walk_models.specs.Lent.{Lent, lent_hooks}
+use Rattle.walk_models.specs.Owned.{owned_cell}
+use Rattle.walk_models.specs.CacheMemory.{CacheMemory, crate_memory}
+use Rattle.lent_mesh.specs.Grid.{inside_of}
+use Rattle.lent_mesh.specs.Stored.{store_at}
 
 abbrev pub Hand : Type 0
 Hand = Lent (List ℕ) (List Float)
@@ -20,15 +20,15 @@ abbrev pub unborder : Lent CacheMemory (List Float) → Hand
 unborder t = record { memory = t.memory.work; vertices = t.vertices; indices = t.indices; made = t.made; written = t.written }
 
 -- which of the two layers, and of the two rows, is `[0]`: rows swap n - 1 times a layer
-abbrev pub layerParity : ℕ → ℕ
-layerParity z = z % 2
+abbrev pub layer_parity : ℕ → ℕ
+layer_parity z = z % 2
 
-abbrev pub rowParity : ℕ → ℕ → ℕ → ℕ
-rowParity n z y = (z * (n - 1) + y) % 2
+abbrev pub row_parity : ℕ → ℕ → ℕ → ℕ
+row_parity n z y = (z * (n - 1) + y) % 2
 
 module _ (numbering n : ℕ) (samples : List Float) where
-  unfoldable pub cellStep : ℕ → ℕ → ℕ → Hand → Hand
-  cellStep z y x s =
+  unfoldable pub cell_step : ℕ → ℕ → ℕ → Hand → Hand
+  cell_step z y x s =
       cond (eqb numbering 0)
-      (unborder (cell (lentHooks (crateMemory n) (storeAt n samples)) (insideOf n samples) n z y x (border (layerParity z) (rowParity n z y) s)))
-      (ownedCell (storeAt n samples) n (insideOf n samples) z y x s)
+      (unborder (cell (lent_hooks (crate_memory n) (store_at n samples)) (inside_of n samples) n z y x (border (layer_parity z) (row_parity n z y) s)))
+      (owned_cell (store_at n samples) n (inside_of n samples) z y x s)

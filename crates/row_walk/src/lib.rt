@@ -2,13 +2,13 @@
 // word that the surface crosses. A cell with all corners alike visits nothing and is passed over.
 ghost use Rattle.std.specs.Prelude.{◌≡◌, ◌+◌, ◌-◌, ◌*◌, ◌≤◌, ◌<◌};
 ghost use Rattle.walk.specs.Walk.{signs, times};
-ghost use Rattle.walk_models.specs.Owned.{cellsOfRow};
-ghost use Rattle.lent_mesh.specs.Grid.{insideOf};
-ghost use Rattle.lent_mesh.specs.Stored.{inHand, CellOf};
+ghost use Rattle.walk_models.specs.Owned.{cells_of_row};
+ghost use Rattle.lent_mesh.specs.Grid.{inside_of};
+ghost use Rattle.lent_mesh.specs.Stored.{in_hand, CellOf};
 ghost use Rattle.sign_words.specs.Words.{LayerWords};
-ghost use Rattle.sign_cells.specs.Cells.{QuadOf, cells_in, activeWord};
+ghost use Rattle.sign_cells.specs.Cells.{QuadOf, cells_in, active_word};
 ghost use Rattle.joined_slots.specs.OneCell.{class_of};
-ghost use Rattle.row_walk.specs.Steps.{rowParity, cellStep};
+ghost use Rattle.row_walk.specs.Steps.{row_parity, cell_step};
 ghost use Rattle.row_walk.specs.Ready.{Tables, RowOf, Room};
 
 use lent_mesh::Counts;
@@ -38,10 +38,10 @@ fn one_cell(
 ) -> Counts
     requires tables { Tables n z rows.now regulars.now news.now coordinates.now slots.now }
     requires cell_of { CellOf samples.now n x y z }
-    requires case_value { (case ≡ signs (insideOf n samples.now) x y z) × (class ≡ class_of x y z) × (row ≡ rowParity n z y) }
+    requires case_value { (case ≡ signs (inside_of n samples.now) x y z) × (class ≡ class_of x y z) × (row ≡ row_parity n z y) }
     requires room { Room n work.old 15 counts }
-    ensures result_after { inHand work.new vertices.new indices.new result
-        ≡ cellStep numbering n samples.now z y x (inHand work.old vertices.old indices.old counts) }
+    ensures result_after { in_hand work.new vertices.new indices.new result
+        ≡ cell_step numbering n samples.now z y x (in_hand work.old vertices.old indices.old counts) }
     ensures written_bound { (result.written ≤ counts.written + 15) × (result.made ≤ result.written) }
 {
     if numbering == 0 {
@@ -109,11 +109,11 @@ fn word_cells(
 ) -> Counts
     requires tables { Tables n z rows.now regulars.now news.now coordinates.now slots.now }
     requires row_of { RowOf samples.now n y z }
-    requires quad_of { QuadOf n samples.now y z k quad × (mask ≡ activeWord n samples.now y z k) × (32 * k < n - 1) }
-    requires class_value { (class ≡ class_of 1 y z) × (class ≤ 6) × (row ≡ rowParity n z y) }
+    requires quad_of { QuadOf n samples.now y z k quad × (mask ≡ active_word n samples.now y z k) × (32 * k < n - 1) }
+    requires class_value { (class ≡ class_of 1 y z) × (class ≤ 6) × (row ≡ row_parity n z y) }
     requires room { Room n work.old 480 counts }
-    ensures result_after { inHand work.new vertices.new indices.new result
-        ≡ times (cells_in n k) (λ i t. cellStep numbering n samples.now z y (32 * k + i) t) (inHand work.old vertices.old indices.old counts) }
+    ensures result_after { in_hand work.new vertices.new indices.new result
+        ≡ times (cells_in n k) (λ i t. cell_step numbering n samples.now z y (32 * k + i) t) (in_hand work.old vertices.old indices.old counts) }
     ensures written_bound { (result.written ≤ counts.written + 480) × (result.made ≤ result.written) }
 {
     let dense = u32::count_ones(mask) > 27;
@@ -171,11 +171,11 @@ pub fn row_cells(
     counts: Counts,
 ) -> Counts
     requires tables { Tables n z rows.now regulars.now news.now coordinates.now slots.now }
-    requires row_of { RowOf samples.now n y z × (row ≡ rowParity n z y) }
+    requires row_of { RowOf samples.now n y z × (row ≡ row_parity n z y) }
     requires layer_words { LayerWords n samples.now z low.now × LayerWords n samples.now (z + 1) high.now }
     requires room { Room n work.old 1920 counts }
-    ensures result_after { inHand work.new vertices.new indices.new result
-        ≡ cellsOfRow (cellStep numbering n samples.now) n z y (n - 1) (inHand work.old vertices.old indices.old counts) }
+    ensures result_after { in_hand work.new vertices.new indices.new result
+        ≡ cells_of_row (cell_step numbering n samples.now) n z y (n - 1) (in_hand work.old vertices.old indices.old counts) }
     ensures written_bound { (result.written ≤ counts.written + 1920) × (result.made ≤ result.written) }
 {
     if sign_cells::outside(low, high, y) {

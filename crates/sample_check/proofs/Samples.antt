@@ -16,18 +16,18 @@ use Rattle.marching_cubes_tables.proofs.Tests.{lt-or-ge}
 use Rattle.marching_cubes_impl.specs.Sample.{good}
 use Rattle.marching_cubes_impl.proofs.Limit.{limit, good-comparisons}
 use Rattle.walk.proofs.Bools.{or-none-left, or-none-right}
-use Rattle.sample_check.specs.Samples.{anyBad, lowestBad}
+use Rattle.sample_check.specs.Samples.{any_bad, lowest_bad}
 
 -- ---- the flag pass
 
-anyBad-snoc : (vs : List Float) (v : Float) → anyBad (vs ++ (v ∷ [])) ≡ (anyBad vs || not (good v))
-unfolding anyBad
-anyBad-snoc [] v = last (good v)
+any_bad-snoc : (vs : List Float) (v : Float) → any_bad (vs ++ (v ∷ [])) ≡ (any_bad vs || not (good v))
+unfolding any_bad
+any_bad-snoc [] v = last (good v)
   where
     last : (b : Bool) → (not b || false) ≡ not b
     last true = refl
     last false = refl
-anyBad-snoc (u ∷ vs) v = ap (λ (b : Bool). not (good u) || b) (anyBad-snoc vs v) ∙ joined (not (good u)) (anyBad vs) (not (good v))
+any_bad-snoc (u ∷ vs) v = ap (λ (b : Bool). not (good u) || b) (any_bad-snoc vs v) ∙ joined (not (good u)) (any_bad vs) (not (good v))
   where
     joined : (a b c : Bool) → (a || (b || c)) ≡ ((a || b) || c)
     joined true b c = refl
@@ -45,44 +45,44 @@ in_range-good v = both (le v limit) (le (neg limit) v) ∙ good-comparisons v
     both true b = refl
     both false b = refl
 
-pub flag-suc : (samples : List Float) (i : ℕ) (bad : Bool) → i < length samples → bad ≡ anyBad (take i samples)
-    → (bad || not (in_range (get_or samples i nan))) ≡ anyBad (take (i + 1) samples)
+pub flag-suc : (samples : List Float) (i : ℕ) (bad : Bool) → i < length samples → bad ≡ any_bad (take i samples)
+    → (bad || not (in_range (get_or samples i nan))) ≡ any_bad (take (i + 1) samples)
 flag-suc samples i bad h e =
     let v = get_or samples i nan in
     ap₂ (λ (x b : Bool). x || not b) e (in_range-good v)
-    ∙ sym (anyBad-snoc (take i samples) v)
-    ∙ ap anyBad (sym (take-suc samples i nan h) ∙ ap (λ (k : ℕ). take k samples) (sym (add-one i)))
+    ∙ sym (any_bad-snoc (take i samples) v)
+    ∙ ap any_bad (sym (take-suc samples i nan h) ∙ ap (λ (k : ℕ). take k samples) (sym (add-one i)))
 
-pub flag-end : (samples : List Float) (i : ℕ) (bad : Bool) → length samples ≤ i → bad ≡ anyBad (take i samples) → bad ≡ anyBad samples
-flag-end samples i bad h e = e ∙ ap anyBad (take_all i samples h)
+pub flag-end : (samples : List Float) (i : ℕ) (bad : Bool) → length samples ≤ i → bad ≡ any_bad (take i samples) → bad ≡ any_bad samples
+flag-end samples i bad h e = e ∙ ap any_bad (take_all i samples h)
 
 -- ---- the search
 
 module _ (samples : List Float) (i : ℕ) (within : i < length samples) where
-  pub lowestBad-good : good (get_or samples i nan) ≡ true → i + lowestBad (drop i samples) ≡ i + 1 + lowestBad (drop (i + 1) samples)
-  unfolding lowestBad
-  lowestBad-good h =
-      let here : lowestBad (drop i samples) ≡ suc (lowestBad (drop (i + 1) samples)) = rw (drop-cons samples i nan within, h, add-one) in
+  pub lowest_bad-good : good (get_or samples i nan) ≡ true → i + lowest_bad (drop i samples) ≡ i + 1 + lowest_bad (drop (i + 1) samples)
+  unfolding lowest_bad
+  lowest_bad-good h =
+      let here : lowest_bad (drop i samples) ≡ suc (lowest_bad (drop (i + 1) samples)) = rw (drop-cons samples i nan within, h, add-one) in
       omega arith
 
-  pub lowestBad-bad : good (get_or samples i nan) ≡ false → i + lowestBad (drop i samples) ≡ i
-  unfolding lowestBad
-  lowestBad-bad h =
-      let here : lowestBad (drop i samples) ≡ 0 = rw (drop-cons samples i nan within, h) in
+  pub lowest_bad-bad : good (get_or samples i nan) ≡ false → i + lowest_bad (drop i samples) ≡ i
+  unfolding lowest_bad
+  lowest_bad-bad h =
+      let here : lowest_bad (drop i samples) ≡ 0 = rw (drop-cons samples i nan within, h) in
       omega arith
 
-pub lowestBad-end : (samples : List Float) (i : ℕ) → length samples ≤ i → i + lowestBad (drop i samples) ≡ lowestBad samples → i ≡ lowestBad samples
-unfolding lowestBad
-lowestBad-end samples i h e =
-    let none : lowestBad (drop i samples) ≡ 0 = rw (drop_of_length-le samples h) in
+pub lowest_bad-end : (samples : List Float) (i : ℕ) → length samples ≤ i → i + lowest_bad (drop i samples) ≡ lowest_bad samples → i ≡ lowest_bad samples
+unfolding lowest_bad
+lowest_bad-end samples i h e =
+    let none : lowest_bad (drop i samples) ≡ 0 = rw (drop_of_length-le samples h) in
     omega arith
 
 -- ---- together
 
-pub lowestBad-le : (samples : List Float) → lowestBad samples ≤ length samples
-unfolding lowestBad
-lowestBad-le [] = omega arith
-lowestBad-le (v ∷ vs) = among (good v) (lowestBad vs) (length vs) (lowestBad-le vs)
+pub lowest_bad-le : (samples : List Float) → lowest_bad samples ≤ length samples
+unfolding lowest_bad
+lowest_bad-le [] = omega arith
+lowest_bad-le (v ∷ vs) = among (good v) (lowest_bad vs) (length vs) (lowest_bad-le vs)
   where
     among : (b : Bool) (k l : ℕ) → k ≤ l → cond b (suc k) 0 ≤ suc l
     among true k l h = omega arith
@@ -95,29 +95,29 @@ ltb-suc a b =
     (lt-or-ge a b)
 
 -- there is a bad sample exactly where the search ends at one
-pub anyBad-lowestBad : (samples : List Float) → anyBad samples ≡ ltb (lowestBad samples) (length samples)
-unfolding anyBad lowestBad
-anyBad-lowestBad [] = refl
-anyBad-lowestBad (v ∷ vs) = among (good v) (anyBad vs) (lowestBad vs) (anyBad-lowestBad vs)
+pub any_bad-lowest_bad : (samples : List Float) → any_bad samples ≡ ltb (lowest_bad samples) (length samples)
+unfolding any_bad lowest_bad
+any_bad-lowest_bad [] = refl
+any_bad-lowest_bad (v ∷ vs) = among (good v) (any_bad vs) (lowest_bad vs) (any_bad-lowest_bad vs)
   where
     among : (b c : Bool) (k : ℕ) → c ≡ ltb k (length vs) → (not b || c) ≡ ltb (cond b (suc k) 0) (suc (length vs))
     among true c k h = h ∙ sym (ltb-suc k (length vs))
     among false c k h = sym (lt-ltb 0 (suc (length vs)) (omega arith))
 
 -- nothing bad: every sample is good, and the search ends at the length
-pub anyBad-none-good : (samples : List Float) → anyBad samples ≡ false → (i : ℕ) → i < length samples → good (get_or samples i nan) ≡ true
-unfolding anyBad
-anyBad-none-good [] e i h = absurd (not-suc-le-zero h)
-anyBad-none-good (v ∷ vs) e zero h = not-false (good v) (or-none-left (not (good v)) (anyBad vs) e)
-anyBad-none-good (v ∷ vs) e (suc i) h = anyBad-none-good vs (or-none-right (not (good v)) (anyBad vs) e) i (le_of_suc-le-suc h)
+pub any_bad-none-good : (samples : List Float) → any_bad samples ≡ false → (i : ℕ) → i < length samples → good (get_or samples i nan) ≡ true
+unfolding any_bad
+any_bad-none-good [] e i h = absurd (not-suc-le-zero h)
+any_bad-none-good (v ∷ vs) e zero h = not-false (good v) (or-none-left (not (good v)) (any_bad vs) e)
+any_bad-none-good (v ∷ vs) e (suc i) h = any_bad-none-good vs (or-none-right (not (good v)) (any_bad vs) e) i (le_of_suc-le-suc h)
 
-pub good-anyBad-none : (samples : List Float) → ((i : ℕ) → i < length samples → good (get_or samples i nan) ≡ true) → anyBad samples ≡ false
-unfolding anyBad
-good-anyBad-none [] h = refl
-good-anyBad-none (v ∷ vs) h =
-    ap₂ (λ (b c : Bool). not b || c) (h zero (omega arith)) (good-anyBad-none vs (λ i l. h (suc i) (omega arith)))
+pub good-any_bad-none : (samples : List Float) → ((i : ℕ) → i < length samples → good (get_or samples i nan) ≡ true) → any_bad samples ≡ false
+unfolding any_bad
+good-any_bad-none [] h = refl
+good-any_bad-none (v ∷ vs) h =
+    ap₂ (λ (b c : Bool). not b || c) (h zero (omega arith)) (good-any_bad-none vs (λ i l. h (suc i) (omega arith)))
 
-pub anyBad-none-length : (samples : List Float) → anyBad samples ≡ false → lowestBad samples ≡ length samples
-anyBad-none-length samples e =
-    let least = ltb-false (lowestBad samples) (length samples) (sym (anyBad-lowestBad samples) ∙ e) in
-    omega (arith, lowestBad-le samples)
+pub any_bad-none-length : (samples : List Float) → any_bad samples ≡ false → lowest_bad samples ≡ length samples
+any_bad-none-length samples e =
+    let least = ltb-false (lowest_bad samples) (length samples) (sym (any_bad-lowest_bad samples) ∙ e) in
+    omega (arith, lowest_bad-le samples)

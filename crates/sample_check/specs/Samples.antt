@@ -3,11 +3,11 @@ use Rattle.std.specs.Prelude.{Bool, false, cond, not, ◌||◌, List, [], ◌∷
 use Rattle.marching_cubes_impl.specs.Sample.{good}
 
 -- the lowest place whose sample is not good; the length where all are good
-unfoldable pub lowestBad : List Float → ℕ
-lowestBad [] = 0
-lowestBad (v ∷ vs) = cond (good v) (suc (lowestBad vs)) 0
+unfoldable pub lowest_bad : List Float → ℕ
+lowest_bad [] = 0
+lowest_bad (v ∷ vs) = cond (good v) (suc (lowest_bad vs)) 0
 
 -- is one of them not good?
-unfoldable pub anyBad : List Float → Bool
-anyBad [] = false
-anyBad (v ∷ vs) = not (good v) || anyBad vs
+unfoldable pub any_bad : List Float → Bool
+any_bad [] = false
+any_bad (v ∷ vs) = not (good v) || any_bad vs

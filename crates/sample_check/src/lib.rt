@@ -1,7 +1,7 @@
 // The samples that are refused, cause 5 of document 01's table: whether there is one, and where the
 // first stands.
 ghost use Rattle.std.specs.Prelude.{◌≡◌};
-ghost use Rattle.sample_check.specs.Samples.{anyBad, lowestBad};
+ghost use Rattle.sample_check.specs.Samples.{any_bad, lowest_bad};
 
 use marching_cubes_impl::edge::is_good;
 
@@ -11,7 +11,7 @@ const LIMIT: f32 = 85070591730234615865843651857942052864.0;
 // Whether a sample is refused. Every sample is looked at and the loop has one way out, so that it
 // can take several at a time.
 pub fn any_bad(samples: &[f32]) -> bool
-    ensures { result ≡ anyBad samples.now }
+    ensures { result ≡ any_bad samples.now }
 {
     let mut bad = false;
     let mut i: usize = 0;
@@ -26,7 +26,7 @@ pub fn any_bad(samples: &[f32]) -> bool
 
 // The place of the first sample that is refused, or the number of samples.
 pub fn lowest_bad(samples: &[f32]) -> usize
-    ensures { result ≡ lowestBad samples.now }
+    ensures { result ≡ lowest_bad samples.now }
 {
     let mut i: usize = 0;
     while i < samples.len() {

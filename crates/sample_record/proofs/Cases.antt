@@ -10,8 +10,8 @@ use lib.Ieee.{Float, nan, fin, of_bits}
 use Rattle.sample_record.specs.declared.Record.{Record}
 use Rattle.sample_record.specs.declared.Record.TheVariants.{Holds, Malformed, BadSize, BadNumbering, BadCount}
 use Rattle.little_endian.specs.Words.{word_at}
-use Rattle.sample_record.specs.Record.{recordOf, causeOf, place_of, size_of, numberingOf}
-use Rattle.record_samples.specs.Samples.{samplesOf}
+use Rattle.sample_record.specs.Record.{record_of, cause_of, place_of, size_of, numbering_of}
+use Rattle.record_samples.specs.Samples.{samples_of}
 
 -- a word below 2 ^ 16, lowest byte first
 small : ℕ → List ℕ
@@ -35,17 +35,17 @@ data Case : Type 0 where
 
 -- cause, place, size and numbering
 data Answer : Type 0 where
-  isRecord : Record → Answer
-  isNumbers : ℕ → ℕ → ℕ → ℕ → Answer
-  isSamples : List Float → Answer
+  is_record : Record → Answer
+  is_numbers : ℕ → ℕ → ℕ → ℕ → Answer
+  is_samples : List Float → Answer
 
 abbrev answer : Case → Answer
-answer (library bytes) = isRecord (recordOf 128 bytes)
-answer (program bytes) = isRecord (recordOf 7 bytes)
+answer (library bytes) = is_record (record_of 128 bytes)
+answer (program bytes) = is_record (record_of 7 bytes)
 answer (numbers bytes) =
-    let found = recordOf 128 bytes in
-    isNumbers (causeOf found) (place_of found) (size_of found) (numberingOf found)
-answer (samples bytes) = isSamples (samplesOf bytes)
+    let found = record_of 128 bytes in
+    is_numbers (cause_of found) (place_of found) (size_of found) (numbering_of found)
+answer (samples bytes) = is_samples (samples_of bytes)
 
 cases : map answer (
     -- W1 to W6, either numbering
@@ -86,33 +86,33 @@ cases : map answer (
     -- 1.0, the least value above 0, minus zero, a NaN, and three bytes that are no sample
     samples (take 20 (grid 0) ++ 0 ∷ 0 ∷ 128 ∷ 63 ∷ 1 ∷ 0 ∷ 0 ∷ 0 ∷ 0 ∷ 0 ∷ 0 ∷ 128 ∷ 1 ∷ 0 ∷ 128 ∷ 255 ∷ 7 ∷ 7 ∷ 7 ∷ []) ∷
     []) ≡
-    isRecord (Holds 2 0) ∷
-    isRecord (Holds 2 1) ∷
-    isRecord (Malformed 0) ∷
-    isRecord (Malformed 19) ∷
-    isRecord (Malformed 0) ∷
-    isRecord (Malformed 0) ∷
-    isRecord BadSize ∷
-    isRecord BadSize ∷
-    isRecord BadNumbering ∷
-    isRecord BadCount ∷
-    isRecord (Malformed 16) ∷
-    isRecord (Malformed 20) ∷
-    isRecord (Malformed 20) ∷
-    isRecord (Malformed 0) ∷
-    isRecord BadSize ∷
-    isRecord BadNumbering ∷
-    isRecord BadCount ∷
-    isRecord (Malformed 16) ∷
-    isRecord BadNumbering ∷
-    isRecord BadSize ∷
-    isRecord BadNumbering ∷
-    isNumbers 0 0 2 1 ∷
-    isNumbers 8 19 0 0 ∷
-    isNumbers 1 0 0 0 ∷
-    isNumbers 2 0 0 0 ∷
-    isNumbers 3 0 0 0 ∷
-    isSamples (fin false 1 (pos 0) ∷ fin false 1 (negsuc 148) ∷ fin true 0 (pos 0) ∷ nan ∷ []) ∷
+    is_record (Holds 2 0) ∷
+    is_record (Holds 2 1) ∷
+    is_record (Malformed 0) ∷
+    is_record (Malformed 19) ∷
+    is_record (Malformed 0) ∷
+    is_record (Malformed 0) ∷
+    is_record BadSize ∷
+    is_record BadSize ∷
+    is_record BadNumbering ∷
+    is_record BadCount ∷
+    is_record (Malformed 16) ∷
+    is_record (Malformed 20) ∷
+    is_record (Malformed 20) ∷
+    is_record (Malformed 0) ∷
+    is_record BadSize ∷
+    is_record BadNumbering ∷
+    is_record BadCount ∷
+    is_record (Malformed 16) ∷
+    is_record BadNumbering ∷
+    is_record BadSize ∷
+    is_record BadNumbering ∷
+    is_numbers 0 0 2 1 ∷
+    is_numbers 8 19 0 0 ∷
+    is_numbers 1 0 0 0 ∷
+    is_numbers 2 0 0 0 ∷
+    is_numbers 3 0 0 0 ∷
+    is_samples (fin false 1 (pos 0) ∷ fin false 1 (negsuc 148) ∷ fin true 0 (pos 0) ∷ nan ∷ []) ∷
     []
 unfolding grid made small word_at of_bits
 cases = refl

@@ -6,15 +6,15 @@ use Rattle.sample_record.specs.declared.Record.TheVariants.{Holds, Malformed, Ba
 use Rattle.little_endian.specs.Words.{word_at}
 
 -- the samples of a grid of this size
-abbrev pub sampleCount : ℕ → ℕ
-sampleCount n = n * n * (n + 1)
+abbrev pub sample_count : ℕ → ℕ
+sample_count n = n * n * (n + 1)
 
 abbrev differ : ℕ → ℕ → Bool
 differ a b = not (eqb a b)
 
 -- five words: the version, the size, the numbering, the number of samples and the place where they begin
-abbrev pub recordOf : ℕ → List ℕ → Record
-recordOf limit bytes =
+abbrev pub record_of : ℕ → List ℕ → Record
+record_of limit bytes =
     let version = word_at bytes 0 in
     let size = word_at bytes 4 in
     let numbering = word_at bytes 8 in
@@ -24,18 +24,18 @@ recordOf limit bytes =
     (cond (differ version 1) (Malformed 0)
     (cond (ltb size 2 || ltb limit size) BadSize
     (cond (ltb 1 numbering) BadNumbering
-    (cond (differ count (sampleCount size)) BadCount
+    (cond (differ count (sample_count size)) BadCount
     (cond (differ offset 20) (Malformed 16)
     (cond (differ (length bytes) (20 + 4 * count)) (Malformed 20)
     (Holds size numbering)))))))
 
 -- document 01's cause and place of an answer, and the size and numbering that it gives
-abbrev pub causeOf : Record → ℕ
-causeOf (Holds size numbering) = 0
-causeOf (Malformed place) = 8
-causeOf BadSize = 1
-causeOf BadNumbering = 2
-causeOf BadCount = 3
+abbrev pub cause_of : Record → ℕ
+cause_of (Holds size numbering) = 0
+cause_of (Malformed place) = 8
+cause_of BadSize = 1
+cause_of BadNumbering = 2
+cause_of BadCount = 3
 
 abbrev pub place_of : Record → ℕ
 place_of (Holds size numbering) = 0
@@ -51,9 +51,9 @@ size_of BadSize = 0
 size_of BadNumbering = 0
 size_of BadCount = 0
 
-abbrev pub numberingOf : Record → ℕ
-numberingOf (Holds size numbering) = numbering
-numberingOf (Malformed place) = 0
-numberingOf BadSize = 0
-numberingOf BadNumbering = 0
-numberingOf BadCount = 0
+abbrev pub numbering_of : Record → ℕ
+numbering_of (Holds size numbering) = numbering
+numbering_of (Malformed place) = 0
+numbering_of BadSize = 0
+numbering_of BadNumbering = 0
+numbering_of BadCount = 0

@@ -2,7 +2,7 @@
 // The bytes are only read. A size is tested against the limit before any product is made of it, so
 // that no bytes make one overflow.
 ghost use Rattle.std.specs.Prelude.{◌≡◌, ◌<◌};
-ghost use Rattle.sample_record.specs.Record.{sampleCount, recordOf};
+ghost use Rattle.sample_record.specs.Record.{sample_count, record_of};
 
 use little_endian::word_at;
 
@@ -20,7 +20,7 @@ pub enum Record {
 // The samples of a grid of this size.
 fn sample_count(size: u32) -> u64
     requires { size < 65536 }
-    ensures { result ≡ sampleCount size }
+    ensures { result ≡ sample_count size }
 {
     let n = size as u64;
     n * n * (n + 1)
@@ -29,7 +29,7 @@ fn sample_count(size: u32) -> u64
 // The answer about a record whose size may be 2 to `limit`: 128 for the library, 7 for the listing
 // program. The limit is a u16, so that no number of samples passes 2^48.
 pub fn record_in(bytes: &[u8], limit: u16) -> Record
-    ensures { result ≡ recordOf limit bytes.now }
+    ensures { result ≡ record_of limit bytes.now }
 {
     if bytes.len() < 20 {
         return Record::Malformed(bytes.len());

@@ -6,10 +6,10 @@ use Prim.Native.Nat.{ℕ, ◌+◌, ◌*◌}
 use lib.Dec.{T, eqb, ltb}
 use lib.ListN.{length}
 use lib.Ieee.{Float}
-use Rattle.lent_mesh.specs.Grid.{positionAt, floatsOf}
-use Rattle.sample_check.specs.Samples.{lowestBad}
+use Rattle.lent_mesh.specs.Grid.{position_at, floats_of}
+use Rattle.sample_check.specs.Samples.{lowest_bad}
 use Rattle.marching_cubes_tables.proofs.Tests.{both_left, both_right}
-use Rattle.outcome.specs.Outcome.{Outcome, workRoom, Surface, surfaceOf, over, refused, meshed, filled, outcome}
+use Rattle.outcome.specs.Outcome.{Outcome, work_room, Surface, surface_of, over, refused, meshed, filled, outcome}
 
 -- an outcome that is given where a test holds
 record Guarded : Type 0 where
@@ -44,20 +44,20 @@ chain-last (g ∷ gs) last t h =
 module _ (n numbering : ℕ) (samples : List Float) (work : List ℕ) (vertices : List Float) (indices : List ℕ) where
   abbrev pub done : Outcome
   done =
-      let s : Surface = surfaceOf n numbering samples in
-      meshed n numbering samples work vertices indices 0 s (over (floatsOf (map (positionAt n samples) s.made)) vertices) (over s.indices indices)
+      let s : Surface = surface_of n numbering samples in
+      meshed n numbering samples work vertices indices 0 s (over (floats_of (map (position_at n samples) s.made)) vertices) (over s.indices indices)
 
   pub outcome-done : (outcome n numbering samples work vertices indices).answer.cause ≡ 0 → outcome n numbering samples work vertices indices ≡ done
   unfolding outcome filled
   outcome-done =
-      let s : Surface = surfaceOf n numbering samples in
+      let s : Surface = surface_of n numbering samples in
       let refusal = refused n numbering samples work vertices indices in
       chain-last
       (guarded (ltb n 2 || ltb 128 n) (refusal 1 0)
       ∷ guarded (ltb 1 numbering) (refusal 2 0)
       ∷ guarded (not (eqb (length samples) (n * n * (n + 1)))) (refusal 3 0)
-      ∷ guarded (ltb (length work) (workRoom n)) (refusal 4 0)
-      ∷ guarded (ltb (lowestBad samples) (length samples)) (refusal 5 (lowestBad samples))
+      ∷ guarded (ltb (length work) (work_room n)) (refusal 4 0)
+      ∷ guarded (ltb (lowest_bad samples) (length samples)) (refusal 5 (lowest_bad samples))
       ∷ guarded (ltb (length vertices) (3 * length s.made)) (meshed n numbering samples work vertices indices 6 s vertices indices)
       ∷ guarded (ltb (length indices) (length s.indices)) (meshed n numbering samples work vertices indices 7 s vertices indices)
       ∷ [])

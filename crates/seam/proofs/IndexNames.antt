@@ -12,14 +12,14 @@ use lib.ListN.{length, get_or, length-map, get_or-map}
 use borrow.Author.Tests.{eq-eqb, ne_eqb, not-true}
 use Rattle.walk.specs.Walk.{Visit, Inside, listing, visits}
 use Rattle.walk.specs.Edges.{Edge, edge_of, same, has, distinct}
-use Rattle.walk.specs.Numbering.{Mesh, empty, choose, hooks, mesh, joined, oneMore, number}
+use Rattle.walk.specs.Numbering.{Mesh, empty, choose, hooks, mesh, joined, one_more, number}
 use Rattle.walk.proofs.Bools.{bool_cases, and_left, and_right}
 use Rattle.walk.proofs.Each.{length-snoc}
 use Rattle.walk.proofs.GridEdges.{visit_at, same_true, same_refl}
-use Rattle.walk.proofs.FirstUse.{oneMore-suc, number_append, number-snoc-same}
+use Rattle.walk.proofs.FirstUse.{one_more-suc, number_append, number-snoc-same}
 use Rattle.walk.proofs.WalkInduction.{Steps, walk_kept}
 use Rattle.walk.proofs.Ownership.{met-end}
-use Rattle.seam.specs.Seam.{edgeOfVertex}
+use Rattle.seam.specs.Seam.{edge_of_vertex}
 use Rattle.seam.specs.FaceRule.{sides}
 use Rattle.seam.proofs.Sides.{count}
 
@@ -63,9 +63,9 @@ module _ (g : Inside) (n layers : ℕ) where
   named-steps =
       record {
         visit = λ z y x j s t lz ly lx lj r. choose-named _ s t _ refl r;
-        cellEnd = λ z y x s t lz ly lx r. record { lengths = r.lengths; names = r.names };
-        rowEnd = λ z y s t lz ly r. record { lengths = r.lengths; names = r.names };
-        layerEnd = λ z s t lz r. record { lengths = r.lengths; names = r.names };
+        cell_end = λ z y x s t lz ly lx r. record { lengths = r.lengths; names = r.names };
+        row_end = λ z y s t lz ly r. record { lengths = r.lengths; names = r.names };
+        layer_end = λ z s t lz r. record { lengths = r.lengths; names = r.names };
       }
 
   named : Named (mesh joined [] g n layers) (visits g n layers)
@@ -83,7 +83,7 @@ number_at k (m ∷ ms) i d h =
     let u : 1 ≡ suc i = rw t at h in
     let z : i ≡ 0 = omega arith in
     ap (λ (o : ℕ). get_or (m ∷ ms) o d) z ∙ sym (same_true k m t))
-    (λ (f : same k m ≡ false). later (λ i. number_at k ms i d) i (oneMore-suc (number k ms) i (rw f at h)))
+    (λ (f : same k m ≡ false). later (λ i. number_at k ms i d) i (one_more-suc (number k ms) i (rw f at h)))
     (bool_cases (same k m))
   where
     later : ((i : ℕ) → number k ms ≡ suc i → get_or ms i d ≡ k) → (i : ℕ) → number k ms ≡ i × 0 < number k ms → get_or (m ∷ ms) i d ≡ k
@@ -100,14 +100,14 @@ has-at (m ∷ ms) (suc i) d h =
 at-number : (ms : List Edge) (i : ℕ) (d : Edge) → distinct ms ≡ true → i < length ms → number (get_or ms i d) ms ≡ suc i
 unfolding number distinct
 at-number [] i d h l = absurd (not-suc-le-zero l)
-at-number (m ∷ ms) zero d h l = ap (λ (b : Bool). cond b 1 (oneMore (number m ms))) (same_refl m)
+at-number (m ∷ ms) zero d h l = ap (λ (b : Bool). cond b 1 (one_more (number m ms))) (same_refl m)
 at-number (m ∷ ms) (suc i) d h l =
     let k : Edge = get_or ms i d in
     let u : has m ms ≡ false = not-true (has m ms) (and_left (not (has m ms)) (distinct ms) h) in
     let r = at-number ms i d (and_right (not (has m ms)) (distinct ms) h) (le_of_suc-le-suc l) in
     ⊎_elim
     (λ (t : same k m ≡ true). absurd (false≢true (sym u ∙ ap (λ (o : Edge). has o ms) (sym (same_true k m t)) ∙ has-at ms i d (le_of_suc-le-suc l))))
-    (λ (f : same k m ≡ false). ap (λ (b : Bool). cond b 1 (oneMore (number k ms))) f ∙ ap oneMore r)
+    (λ (f : same k m ≡ false). ap (λ (b : Bool). cond b 1 (one_more (number k ms))) f ∙ ap one_more r)
     (bool_cases (same k m))
 
 number_same : (ms : List Edge) (k a : Edge) (p i : ℕ) → number k ms ≡ suc p → number a ms ≡ suc i → eqb p i ≡ same k a
@@ -147,8 +147,8 @@ module _ (ms : List Edge) (a b : Edge) (i j : ℕ) (ea : number a ms ≡ suc i) 
 
 -- the edge of vertex i has the number i
 number-of-vertex : (made : List Visit) → distinct (map edge_of made) ≡ true → (i : ℕ) → i < length made
-    → number (edgeOfVertex made i) (map edge_of made) ≡ suc i
-unfolding edgeOfVertex
+    → number (edge_of_vertex made i) (map edge_of made) ≡ suc i
+unfolding edge_of_vertex
 number-of-vertex made once i h =
     let n = length-map made edge_of in
     ap (λ (k : Edge). number k (map edge_of made)) (sym (get_or-map edge_of made i (visit_at 0 0 0 0)))
@@ -157,11 +157,11 @@ number-of-vertex made once i h =
 -- as many sides run from vertex i to vertex j as from the edge of one to the edge of the other
 pub indices-sides : (g : Inside) (n layers i j : ℕ) → i < length (mesh joined [] g n layers).made → j < length (mesh joined [] g n layers).made
     → count eqb i j (sides (mesh joined [] g n layers).indices)
-    ≡ count same (edgeOfVertex (mesh joined [] g n layers).made i) (edgeOfVertex (mesh joined [] g n layers).made j) (sides (map edge_of (visits g n layers)))
+    ≡ count same (edge_of_vertex (mesh joined [] g n layers).made i) (edge_of_vertex (mesh joined [] g n layers).made j) (sides (map edge_of (visits g n layers)))
 indices-sides g n layers i j hi hj =
     let s = mesh joined [] g n layers in
     let met = met-end g n layers in
     let once : distinct (map edge_of s.made) ≡ true = rw met.edges met.once in
-    let number_of : (k : ℕ) → k < length s.made → number (edgeOfVertex s.made k) s.memory ≡ suc k =
-    λ k h. ap (number (edgeOfVertex s.made k)) (sym met.edges) ∙ number-of-vertex s.made once k h in
-    names-count s.memory (edgeOfVertex s.made i) (edgeOfVertex s.made j) i j (number_of i hi) (number_of j hj) (named g n layers).names
+    let number_of : (k : ℕ) → k < length s.made → number (edge_of_vertex s.made k) s.memory ≡ suc k =
+    λ k h. ap (number (edge_of_vertex s.made k)) (sym met.edges) ∙ number-of-vertex s.made once k h in
+    names-count s.memory (edge_of_vertex s.made i) (edge_of_vertex s.made j) i j (number_of i hi) (number_of j hj) (named g n layers).names

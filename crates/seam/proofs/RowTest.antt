@@ -9,13 +9,13 @@ use native.Mathlib.Omega.{arith}
 use lib.Dec.{T, eqb}
 use lib.ListN.{length, get_or}
 use borrow.Author.Tests.{eqb-true}
-use Rattle.marching_cubes_tables.specs.Tables.{triangleConnection}
-use Rattle.marching_cubes_tables.specs.Rule.{rowEdges}
+use Rattle.marching_cubes_tables.specs.Tables.{triangle_connection}
+use Rattle.marching_cubes_tables.specs.Rule.{row_edges}
 use Rattle.marching_cubes_tables.proofs.Tests.{both_left, both_right}
 use Rattle.walk.proofs.Bools.{bool_cases, and_left, and_right}
 use Rattle.walk.proofs.SignByte.{byte}
-use Rattle.walk.proofs.EightSigns.{allEight, allEight-at}
-use Rattle.seam.specs.FaceRule.{Side, sides, turned, run, around, sixFaces, squareSides, faceSides, facesSides, rowSides}
+use Rattle.walk.proofs.EightSigns.{all_eight, all_eight-at}
+use Rattle.seam.specs.FaceRule.{Side, sides, turned, run, around, six_faces, square_sides, face_sides, faces_sides, row_sides}
 use Rattle.seam.proofs.Sides.{count, count-append, count-turned, renamed, renamed-append, renamed-turned, renamed-sides, renamed-faces}
 
 -- ---- the test
@@ -38,22 +38,22 @@ pairs zero (s ∷ l) = false
 pairs (suc k) [] = true
 pairs (suc k) (s ∷ l) = found s.to s.from l && pairs k (without s.to s.from l)
 
-abbrev pub pairOff : List (Side ℕ) → Bool
-pairOff l = pairs (length l) l
+abbrev pub pair_off : List (Side ℕ) → Bool
+pair_off l = pairs (length l) l
 
 -- the sign of each corner
 abbrev pub sign_of : Bool → Bool → Bool → Bool → Bool → Bool → Bool → Bool → ℕ → Bool
 sign_of a b c d e i g h k = get_or (a ∷ b ∷ c ∷ d ∷ e ∷ i ∷ g ∷ h ∷ []) k false
 
 -- the sides of the row, and those of the faces turned round
-abbrev pub rowAndFaces : Bool → Bool → Bool → Bool → Bool → Bool → Bool → Bool → List (Side ℕ)
-rowAndFaces a b c d e i g h = rowSides (byte a b c d e i g h) ++ turned (facesSides (sign_of a b c d e i g h) (λ k. k) sixFaces)
+abbrev pub row_and_faces : Bool → Bool → Bool → Bool → Bool → Bool → Bool → Bool → List (Side ℕ)
+row_and_faces a b c d e i g h = row_sides (byte a b c d e i g h) ++ turned (faces_sides (sign_of a b c d e i g h) (λ k. k) six_faces)
 
-abbrev pub rowCloses : Bool → Bool → Bool → Bool → Bool → Bool → Bool → Bool → Bool
-rowCloses a b c d e i g h = pairOff (rowAndFaces a b c d e i g h)
+abbrev pub row_closes : Bool → Bool → Bool → Bool → Bool → Bool → Bool → Bool → Bool
+row_closes a b c d e i g h = pair_off (row_and_faces a b c d e i g h)
 
-pub all-rows-close : T (allEight rowCloses)
-unfolding rowSides rowEdges triangleConnection sides around run squareSides faceSides facesSides
+pub all-rows-close : T (all_eight row_closes)
+unfolding row_sides row_edges triangle_connection sides around run square_sides face_sides faces_sides
 all-rows-close = tt
 
 pub passed : (b : Bool) → T b → b ≡ true
@@ -103,7 +103,7 @@ module _ {B : Type 0} (eq : B → B → Bool) (f : ℕ → B) where
       omega arith
 
   -- where l and r turned round pair off, their net sides are the same
-  net : (l r : List (Side ℕ)) → T (pairOff (l ++ turned r)) → (m n : B)
+  net : (l r : List (Side ℕ)) → T (pair_off (l ++ turned r)) → (m n : B)
       → count eq m n (renamed f l) + count eq n m (renamed f r) ≡ count eq n m (renamed f l) + count eq m n (renamed f r)
   net l r t m n = sym (split m n) ∙ count-pairs m n (length (l ++ turned r)) (l ++ turned r) t ∙ split n m
     where
@@ -115,11 +115,11 @@ module _ {B : Type 0} (eq : B → B → Bool) (f : ℕ → B) where
 
   -- the net sides of a row are those of the faces
   pub row-net : (a b c d e i g h : Bool) (m n : B)
-      → count eq m n (sides (map f (rowEdges (byte a b c d e i g h)))) + count eq n m (facesSides (sign_of a b c d e i g h) f sixFaces)
-      ≡ count eq n m (sides (map f (rowEdges (byte a b c d e i g h)))) + count eq m n (facesSides (sign_of a b c d e i g h) f sixFaces)
-  unfolding rowSides
+      → count eq m n (sides (map f (row_edges (byte a b c d e i g h)))) + count eq n m (faces_sides (sign_of a b c d e i g h) f six_faces)
+      ≡ count eq n m (sides (map f (row_edges (byte a b c d e i g h)))) + count eq m n (faces_sides (sign_of a b c d e i g h) f six_faces)
+  unfolding row_sides
   row-net a b c d e i g h m n =
-      let row = rowEdges (byte a b c d e i g h) in
-      let faces = facesSides (sign_of a b c d e i g h) (λ k. k) sixFaces in
-      let t = net (sides row) faces (allEight-at rowCloses all-rows-close a b c d e i g h) m n in
-      rw (renamed-sides f row, renamed-faces f (sign_of a b c d e i g h) (λ k. k) sixFaces) at t
+      let row = row_edges (byte a b c d e i g h) in
+      let faces = faces_sides (sign_of a b c d e i g h) (λ k. k) six_faces in
+      let t = net (sides row) faces (all_eight-at row_closes all-rows-close a b c d e i g h) m n in
+      rw (renamed-sides f row, renamed-faces f (sign_of a b c d e i g h) (λ k. k) six_faces) at t

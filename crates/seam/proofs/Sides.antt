@@ -9,7 +9,7 @@ use native.Mathlib.Omega.{arith}
 use lib.Dec.{T}
 use lib.ListN.{length}
 use Rattle.walk.proofs.Bools.{bool_cases, and_left, and_right}
-use Rattle.seam.specs.FaceRule.{Side, side, sides, turned, run, around, Face, squareSides, seen, faceSides, facesSides}
+use Rattle.seam.specs.FaceRule.{Side, side, sides, turned, run, around, Face, square_sides, seen, face_sides, faces_sides}
 
 -- how many of the sides run from a to b, by the test `eq`
 unfoldable pub count : {A : Type 0} → (A → A → Bool) → A → A → List (Side A) → ℕ
@@ -99,8 +99,8 @@ module _ {A B : Type 0} (f : A → B) where
   unfolding around
   renamed-around p q r s d e g h = simp renamed-append (simp renamed-run)
 
-  renamed-square : (sign : ℕ → Bool) (name : ℕ → A) (k : Face) → renamed (squareSides sign name k) ≡ squareSides sign (λ e. f (name e)) k
-  unfolding squareSides
+  renamed-square : (sign : ℕ → Bool) (name : ℕ → A) (k : Face) → renamed (square_sides sign name k) ≡ square_sides sign (λ e. f (name e)) k
+  unfolding square_sides
   renamed-square sign name k =
       renamed-around (sign k.p) (sign k.q) (sign k.r) (sign k.s) (name k.pq) (name k.qr) (name k.rs) (name k.sp)
 
@@ -108,35 +108,35 @@ module _ {A B : Type 0} (f : A → B) where
   renamed-seen true l = refl
   renamed-seen false l = renamed-turned l
 
-  renamed-face : (sign : ℕ → Bool) (name : ℕ → A) (k : Face) → renamed (faceSides sign name k) ≡ faceSides sign (λ e. f (name e)) k
-  unfolding faceSides
-  renamed-face sign name k = renamed-seen k.high (squareSides sign name k) ∙ ap (seen k.high) (renamed-square sign name k)
+  renamed-face : (sign : ℕ → Bool) (name : ℕ → A) (k : Face) → renamed (face_sides sign name k) ≡ face_sides sign (λ e. f (name e)) k
+  unfolding face_sides
+  renamed-face sign name k = renamed-seen k.high (square_sides sign name k) ∙ ap (seen k.high) (renamed-square sign name k)
 
-  pub renamed-faces : (sign : ℕ → Bool) (name : ℕ → A) (ks : List Face) → renamed (facesSides sign name ks) ≡ facesSides sign (λ e. f (name e)) ks
-  unfolding facesSides
+  pub renamed-faces : (sign : ℕ → Bool) (name : ℕ → A) (ks : List Face) → renamed (faces_sides sign name ks) ≡ faces_sides sign (λ e. f (name e)) ks
+  unfolding faces_sides
   renamed-faces sign name [] = refl
   renamed-faces sign name (k ∷ ks) =
-      renamed-append (faceSides sign name k) (facesSides sign name ks)
+      renamed-append (face_sides sign name k) (faces_sides sign name ks)
       ∙ rw (renamed-face sign name k, renamed-faces sign name ks)
 
 -- ---- sides between ends of a class: none runs between two that are not both in it
 
-abbrev pub allBetween : {A : Type 0} → (A → Bool) → List (Side A) → Bool
-allBetween p [] = true
-allBetween p (s ∷ l) = (p s.from && p s.to) && allBetween p l
+abbrev pub all_between : {A : Type 0} → (A → Bool) → List (Side A) → Bool
+all_between p [] = true
+all_between p (s ∷ l) = (p s.from && p s.to) && all_between p l
 
 both : (a b : Bool) → a ≡ true → b ≡ true → (a && b) ≡ true
 both true b p q = q
 both false b p q = p
 
 module _ {A : Type 0} (f : A → Bool) where
-  between-append : (l r : List (Side A)) → allBetween f l ≡ true → allBetween f r ≡ true → allBetween f (l ++ r) ≡ true
+  between-append : (l r : List (Side A)) → all_between f l ≡ true → all_between f r ≡ true → all_between f (l ++ r) ≡ true
   between-append [] r a b = b
   between-append (s ∷ l) r a b =
       let c : Bool = f s.from && f s.to in
-      both c (allBetween f (l ++ r)) (and_left c (allBetween f l) a) (between-append l r (and_right c (allBetween f l) a) b)
+      both c (all_between f (l ++ r)) (and_left c (all_between f l) a) (between-append l r (and_right c (all_between f l) a) b)
 
-  between_run : (a b c d : A) → f a ≡ true → f b ≡ true → f c ≡ true → f d ≡ true → (p q r s : Bool) → allBetween f (run p q r s a b c d) ≡ true
+  between_run : (a b c d : A) → f a ≡ true → f b ≡ true → f c ≡ true → f d ≡ true → (p q r s : Bool) → all_between f (run p q r s a b c d) ≡ true
   unfolding run
   between_run a b c d ha hb hc hd true q r s = refl
   between_run a b c d ha hb hc hd false false r s = refl
@@ -145,25 +145,25 @@ module _ {A : Type 0} (f : A → Bool) where
   between_run a b c d ha hb hc hd false true true true = simp (ha, hd)
 
   pub between-around : (p q r s : Bool) (a b c d : A) → f a ≡ true → f b ≡ true → f c ≡ true → f d ≡ true
-      → allBetween f (around p q r s a b c d) ≡ true
+      → all_between f (around p q r s a b c d) ≡ true
   unfolding around
   between-around p q r s a b c d ha hb hc hd =
       between-append (run s p q r d a b c) _ (between_run d a b c hd ha hb hc s p q r)
       (between-append (run p q r s a b c d) _ (between_run a b c d ha hb hc hd p q r s)
       (between-append (run q r s p b c d a) _ (between_run b c d a hb hc hd ha q r s p) (between_run c d a b hc hd ha hb r s p q)))
 
-  pub count-between : (eq : A → A → Bool) → ((a b : A) → eq a b ≡ true → a ≡ b) → (a b : A) (l : List (Side A)) → allBetween f l ≡ true
+  pub count-between : (eq : A → A → Bool) → ((a b : A) → eq a b ≡ true → a ≡ b) → (a b : A) (l : List (Side A)) → all_between f l ≡ true
       → (f a && f b) ≡ false → count eq a b l ≡ 0
   unfolding count
   count-between eq sure a b [] h e = refl
   count-between eq sure a b (s ∷ l) h e =
       let c : Bool = f s.from && f s.to in
-      let r = count-between eq sure a b l (and_right c (allBetween f l) h) e in
+      let r = count-between eq sure a b l (and_right c (all_between f l) h) e in
       let t : Bool = eq s.from a && eq s.to b in
       ⊎_elim
       (λ (u : t ≡ true).
       let p : s.from ≡ a = sure s.from a (and_left (eq s.from a) (eq s.to b) u) in
       let q : s.to ≡ b = sure s.to b (and_right (eq s.from a) (eq s.to b) u) in
-      absurd (false≢true (sym e ∙ ap (λ (o : A). f o && f b) (sym p) ∙ ap (λ (o : A). f s.from && f o) (sym q) ∙ and_left c (allBetween f l) h)))
+      absurd (false≢true (sym e ∙ ap (λ (o : A). f o && f b) (sym p) ∙ ap (λ (o : A). f s.from && f o) (sym q) ∙ and_left c (all_between f l) h)))
       (λ (u : t ≡ false). ap (λ (o : Bool). cond o 1 0 + count eq a b l) u ∙ omega arith)
       (bool_cases t)

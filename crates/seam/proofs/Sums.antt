@@ -36,35 +36,35 @@ sum-shift : (k : ℕ) (f : ℕ → ℕ) → f 0 ≡ 0 → f k ≡ 0 → sum k (�
 sum-shift k f a b = let u = sum-next k f in omega arith
 
 -- over layers of m by m cells
-unfoldable pub sumCells : ℕ → ℕ → (ℕ → ℕ → ℕ → ℕ) → ℕ
-sumCells layers m f = sum layers (λ z. sum m (λ y. sum m (λ x. f x y z)))
+unfoldable pub sum_cells : ℕ → ℕ → (ℕ → ℕ → ℕ → ℕ) → ℕ
+sum_cells layers m f = sum layers (λ z. sum m (λ y. sum m (λ x. f x y z)))
 
 module _ (layers m : ℕ) where
-  pub sumCells-eq : (f h : ℕ → ℕ → ℕ → ℕ) → ((x y z : ℕ) → f x y z ≡ h x y z) → sumCells layers m f ≡ sumCells layers m h
-  unfolding sumCells
-  sumCells-eq f h e = sum-eq layers _ _ (λ z. sum-eq m _ _ (λ y. sum-eq m _ _ (λ x. e x y z)))
+  pub sum_cells-eq : (f h : ℕ → ℕ → ℕ → ℕ) → ((x y z : ℕ) → f x y z ≡ h x y z) → sum_cells layers m f ≡ sum_cells layers m h
+  unfolding sum_cells
+  sum_cells-eq f h e = sum-eq layers _ _ (λ z. sum-eq m _ _ (λ y. sum-eq m _ _ (λ x. e x y z)))
 
-  pub sumCells-add : (f h : ℕ → ℕ → ℕ → ℕ) → sumCells layers m (λ x y z. f x y z + h x y z) ≡ sumCells layers m f + sumCells layers m h
-  unfolding sumCells
-  sumCells-add f h =
+  pub sum_cells-add : (f h : ℕ → ℕ → ℕ → ℕ) → sum_cells layers m (λ x y z. f x y z + h x y z) ≡ sum_cells layers m f + sum_cells layers m h
+  unfolding sum_cells
+  sum_cells-add f h =
       sum-eq layers _ _
       (λ z. sum-eq m _ _ (λ y. sum-add m (λ x. f x y z) (λ x. h x y z)) ∙ sum-add m (λ y. sum m (λ x. f x y z)) (λ y. sum m (λ x. h x y z)))
       ∙ sum-add layers (λ z. sum m (λ y. sum m (λ x. f x y z))) (λ z. sum m (λ y. sum m (λ x. h x y z)))
 
-  pub sumCells-along-x : (f : ℕ → ℕ → ℕ → ℕ) → ((y z : ℕ) → f 0 y z ≡ 0) → ((y z : ℕ) → f m y z ≡ 0)
-      → sumCells layers m (λ x y z. f (x + 1) y z) ≡ sumCells layers m f
-  unfolding sumCells
-  sumCells-along-x f a b = sum-eq layers _ _ (λ z. sum-eq m _ _ (λ y. sum-shift m (λ x. f x y z) (a y z) (b y z)))
+  pub sum_cells-along-x : (f : ℕ → ℕ → ℕ → ℕ) → ((y z : ℕ) → f 0 y z ≡ 0) → ((y z : ℕ) → f m y z ≡ 0)
+      → sum_cells layers m (λ x y z. f (x + 1) y z) ≡ sum_cells layers m f
+  unfolding sum_cells
+  sum_cells-along-x f a b = sum-eq layers _ _ (λ z. sum-eq m _ _ (λ y. sum-shift m (λ x. f x y z) (a y z) (b y z)))
 
-  pub sumCells-along-y : (f : ℕ → ℕ → ℕ → ℕ) → ((x z : ℕ) → f x 0 z ≡ 0) → ((x z : ℕ) → f x m z ≡ 0)
-      → sumCells layers m (λ x y z. f x (y + 1) z) ≡ sumCells layers m f
-  unfolding sumCells
-  sumCells-along-y f a b =
+  pub sum_cells-along-y : (f : ℕ → ℕ → ℕ → ℕ) → ((x z : ℕ) → f x 0 z ≡ 0) → ((x z : ℕ) → f x m z ≡ 0)
+      → sum_cells layers m (λ x y z. f x (y + 1) z) ≡ sum_cells layers m f
+  unfolding sum_cells
+  sum_cells-along-y f a b =
       sum-eq layers _ _ (λ z. sum-shift m (λ y. sum m (λ x. f x y z)) (sum-none m _ (λ x. a x z)) (sum-none m _ (λ x. b x z)))
 
-  pub sumCells-along-z : (f : ℕ → ℕ → ℕ → ℕ) → ((x y : ℕ) → f x y 0 ≡ 0) → ((x y : ℕ) → f x y layers ≡ 0)
-      → sumCells layers m (λ x y z. f x y (z + 1)) ≡ sumCells layers m f
-  unfolding sumCells
-  sumCells-along-z f a b =
+  pub sum_cells-along-z : (f : ℕ → ℕ → ℕ → ℕ) → ((x y : ℕ) → f x y 0 ≡ 0) → ((x y : ℕ) → f x y layers ≡ 0)
+      → sum_cells layers m (λ x y z. f x y (z + 1)) ≡ sum_cells layers m f
+  unfolding sum_cells
+  sum_cells-along-z f a b =
       sum-shift layers (λ z. sum m (λ y. sum m (λ x. f x y z))) (sum-none m _ (λ y. sum-none m _ (λ x. a x y)))
       (sum-none m _ (λ y. sum-none m _ (λ x. b x y)))

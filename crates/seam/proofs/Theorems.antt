@@ -9,10 +9,10 @@ use lib.Seq.{take-append_seam}
 use lib.Ieee.{Float}
 use Rattle.walk.specs.Walk.{Inside}
 use Rattle.walk.specs.Numbering.{mesh, joined}
-use Rattle.lent_mesh.specs.Grid.{insideOf}
-use Rattle.outcome.specs.Outcome.{Outcome, left, surfaceOf, over, outcome}
+use Rattle.lent_mesh.specs.Grid.{inside_of}
+use Rattle.outcome.specs.Outcome.{Outcome, left, surface_of, over, outcome}
 use Rattle.outcome.specs.declared.Answer.{Answer}
-use Rattle.seam.specs.Seam.{edgeOfVertex, NoOpenSeam}
+use Rattle.seam.specs.Seam.{edge_of_vertex, NoOpenSeam}
 use Rattle.seam.proofs.Squares.{cells-balanced}
 use Rattle.seam.proofs.VisitedSides.{visits-sides}
 use Rattle.seam.proofs.IndexNames.{indices-sides}
@@ -23,8 +23,8 @@ use Rattle.seam.proofs.Done.{outcome-done}
 pub no-open-seam : (g : Inside) (n layers : ℕ) → NoOpenSeam n layers (mesh joined [] g n layers).made (mesh joined [] g n layers).indices
 no-open-seam g n layers i j hi hj inner =
     let s = mesh joined [] g n layers in
-    let a = edgeOfVertex s.made i in
-    let b = edgeOfVertex s.made j in
+    let a = edge_of_vertex s.made i in
+    let b = edge_of_vertex s.made j in
     triangles-balanced i j s.indices
     (indices-sides g n layers i j hi hj
     ∙ visits-sides g n a b layers
@@ -38,13 +38,13 @@ pub extract-no-open-seam : (n : ℕ) (samples : List Float) (work : List ℕ) (v
     → (answer : Answer) (work-left : List ℕ) (vertices-left : List Float) (indices-left : List ℕ)
     → left answer work-left vertices-left indices-left ≡ outcome n 1 samples work vertices indices
     → answer.cause ≡ 0
-    → (answer.vertices ≡ length (surfaceOf n 1 samples).made) × NoOpenSeam n n (surfaceOf n 1 samples).made (take answer.indices indices-left)
-unfolding surfaceOf
+    → (answer.vertices ≡ length (surface_of n 1 samples).made) × NoOpenSeam n n (surface_of n 1 samples).made (take answer.indices indices-left)
+unfolding surface_of
 extract-no-open-seam n samples work vertices indices answer work-left vertices-left indices-left promise cause =
-    let s = mesh joined [] (insideOf n samples) n n in
+    let s = mesh joined [] (inside_of n samples) n n in
     let all = promise ∙ outcome-done n 1 samples work vertices indices (sym (ap (λ (o : Outcome). o.answer.cause) promise) ∙ cause) in
     let count : answer.indices ≡ length s.indices = ap (λ (o : Outcome). o.answer.indices) all in
     let table : indices-left ≡ over s.indices indices = ap (λ (o : Outcome). o.indices) all in
     let written : take answer.indices indices-left ≡ s.indices =
     ap₂ (λ (k : ℕ) (l : List ℕ). take k l) count table ∙ take-append_seam s.indices (drop (length s.indices) indices) in
-    (ap (λ (o : Outcome). o.answer.vertices) all, subst (NoOpenSeam n n s.made) (sym written) (no-open-seam (insideOf n samples) n n))
+    (ap (λ (o : Outcome). o.answer.vertices) all, subst (NoOpenSeam n n s.made) (sym written) (no-open-seam (inside_of n samples) n n))

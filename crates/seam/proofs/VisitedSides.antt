@@ -5,15 +5,15 @@ use Prim.Native.Nat.{ℕ, zero, suc, ◌+◌, ◌-◌}
 use native.Mathlib.Nat.{zero-add}
 use native.Mathlib.Omega.{arith}
 use lib.Dec.{T}
-use Rattle.walk.specs.Walk.{Visit, Inside, times, cellEdges, cell, cells, rows, walk, listing, visits}
+use Rattle.walk.specs.Walk.{Visit, Inside, times, cell_edges, cell, cells, rows, walk, listing, visits}
 use Rattle.walk.specs.Edges.{Edge, edge_of, same}
 use Rattle.walk.proofs.GridEdges.{visit_at}
-use Rattle.walk.proofs.CellEdges.{cellEdges-threes}
+use Rattle.walk.proofs.CellEdges.{cell_edges-threes}
 use Rattle.walk.proofs.OwnedCells.{fold, times-fold}
 use Rattle.seam.specs.FaceRule.{sides}
 use Rattle.seam.proofs.Sides.{count, count-append, threes, threes-of-length, threes-append, threes-map, sides-append}
-use Rattle.seam.proofs.Sums.{sum, sumCells}
-use Rattle.seam.proofs.Squares.{cellNames, inCell}
+use Rattle.seam.proofs.Sums.{sum, sum_cells}
+use Rattle.seam.proofs.Squares.{cell_names, in_cell}
 
 -- ---- one cell
 
@@ -22,10 +22,10 @@ unfolding fold
 fold-snoc f [] t = sym (append-nil t)
 fold-snoc f (a ∷ l) t = fold-snoc f l (t ++ (f a ∷ [])) ∙ append_assoc t (f a ∷ []) (map f l)
 
-cell-listed : (g : Inside) (n z y x : ℕ) (t : List Visit) → cell listing g n z y x t ≡ t ++ map (visit_at x y z) (cellEdges g x y z)
+cell-listed : (g : Inside) (n z y x : ℕ) (t : List Visit) → cell listing g n z y x t ≡ t ++ map (visit_at x y z) (cell_edges g x y z)
 unfolding cell listing
 cell-listed g n z y x t =
-    times-fold (λ e u. u ++ (visit_at x y z e ∷ [])) 0 (cellEdges g x y z) t ∙ fold-snoc (visit_at x y z) (cellEdges g x y z) t
+    times-fold (λ e u. u ++ (visit_at x y z e ∷ [])) 0 (cell_edges g x y z) t ∙ fold-snoc (visit_at x y z) (cell_edges g x y z) t
 
 -- ---- all cells
 
@@ -49,12 +49,12 @@ module _ (g : Inside) (n : ℕ) (a b : Edge) where
       let q = s.adds in
       record { whole = s.whole; adds = omega arith }
 
-  cell-adds : (z y x : ℕ) (t : List Visit) → T (threes t) → Adds t (cell listing g n z y x t) (inCell g a b x y z)
+  cell-adds : (z y x : ℕ) (t : List Visit) → T (threes t) → Adds t (cell listing g n z y x t) (in_cell g a b x y z)
   cell-adds z y x t h =
-      let new = map (visit_at x y z) (cellEdges g x y z) in
+      let new = map (visit_at x y z) (cell_edges g x y z) in
       let e : cell listing g n z y x t ≡ t ++ new = cell-listed g n z y x t in
-      let w : T (threes new) = threes-map (visit_at x y z) (cellEdges g x y z) (threes-of-length (cellEdges g x y z) (cellEdges-threes g x y z)) in
-      let names : map edge_of new ≡ cellNames g x y z = map-map edge_of (visit_at x y z) (cellEdges g x y z) in
+      let w : T (threes new) = threes-map (visit_at x y z) (cell_edges g x y z) (threes-of-length (cell_edges g x y z) (cell_edges-threes g x y z)) in
+      let names : map edge_of new ≡ cell_names g x y z = map-map edge_of (visit_at x y z) (cell_edges g x y z) in
       record {
         whole = subst (λ (u : List Visit). T (threes u)) (sym e) (threes-append t new h w);
         adds =
@@ -65,8 +65,8 @@ module _ (g : Inside) (n : ℕ) (a b : Edge) where
             ∙ ap (λ (u : List Edge). between t + count same a b (sides u)) names;
       }
 
-  pub visits-sides : (layers : ℕ) → between (visits g n layers) ≡ sumCells layers (n - 1) (inCell g a b)
-  unfolding visits walk rows cells listing sumCells count sides
+  pub visits-sides : (layers : ℕ) → between (visits g n layers) ≡ sum_cells layers (n - 1) (in_cell g a b)
+  unfolding visits walk rows cells listing sum_cells count sides
   visits-sides layers =
       (times-adds _ _ (λ z t h. times-adds _ _ (λ y t h. times-adds _ _ (λ x t h. cell-adds z y x t h) (n - 1) t h) (n - 1) t h) layers [] tt).adds
-      ∙ zero-add (sumCells layers (n - 1) (inCell g a b))
+      ∙ zero-add (sum_cells layers (n - 1) (in_cell g a b))

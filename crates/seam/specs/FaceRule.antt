@@ -1,7 +1,7 @@
 -- The rule that CR 9 rests on: which sides the four corner signs of a cell's face put on it. `proofs/RowTest.antt` computes that every row of the
 -- table keeps to it; the theorem does not mention it, so nothing here need be believed.
 use Rattle.std.specs.Prelude.{Bool, true, false, cond, not, ◌&&◌, ◌||◌, List, [], ◌∷◌, ◌++◌, ℕ}
-use Rattle.marching_cubes_tables.specs.Rule.{rowEdges, member}
+use Rattle.marching_cubes_tables.specs.Rule.{row_edges, member}
 
 -- ---- directed sides between edges, or whatever stands for them
 
@@ -54,8 +54,8 @@ abbrev pub face : Bool → ℕ → ℕ → ℕ → ℕ → ℕ → ℕ → ℕ �
 face high p q r s pq qr rs sp = record { high = high; p = p; q = q; r = r; s = s; pq = pq; qr = qr; rs = rs; sp = sp }
 
 -- low and high along x, y and z: the two of an axis are gone round in the same sense
-abbrev pub sixFaces : List Face
-sixFaces =
+abbrev pub six_faces : List Face
+six_faces =
     face false 0 3 7 4 3 11 7 8
     ∷ face true 1 2 6 5 1 10 5 9
     ∷ face false 0 4 5 1 8 4 9 0
@@ -65,16 +65,16 @@ sixFaces =
     ∷ []
 
 -- edges d and e are both of the face
-unfoldable pub bothOf : Face → ℕ → ℕ → Bool
-bothOf k d e = member d (k.pq ∷ k.qr ∷ k.rs ∷ k.sp ∷ []) && member e (k.pq ∷ k.qr ∷ k.rs ∷ k.sp ∷ [])
+unfoldable pub both_of : Face → ℕ → ℕ → Bool
+both_of k d e = member d (k.pq ∷ k.qr ∷ k.rs ∷ k.sp ∷ []) && member e (k.pq ∷ k.qr ∷ k.rs ∷ k.sp ∷ [])
 
-unfoldable pub commonFace : List Face → ℕ → ℕ → Bool
-commonFace [] d e = false
-commonFace (k ∷ ks) d e = bothOf k d e || commonFace ks d e
+unfoldable pub common_face : List Face → ℕ → ℕ → Bool
+common_face [] d e = false
+common_face (k ∷ ks) d e = both_of k d e || common_face ks d e
 
 -- the sides that its corner signs put on a face of the cell, edge e being called `name e`, as they run on a high face
-unfoldable pub squareSides : {A : Type 0} → (ℕ → Bool) → (ℕ → A) → Face → List (Side A)
-squareSides sign name k =
+unfoldable pub square_sides : {A : Type 0} → (ℕ → Bool) → (ℕ → A) → Face → List (Side A)
+square_sides sign name k =
     around (sign k.p) (sign k.q) (sign k.r) (sign k.s) (name k.pq) (name k.qr) (name k.rs) (name k.sp)
 
 -- a square that two cells share is the low face of one: there its sides are turned round
@@ -82,13 +82,13 @@ abbrev pub seen : {A : Type 0} → Bool → List (Side A) → List (Side A)
 seen true l = l
 seen false l = turned l
 
-unfoldable pub faceSides : {A : Type 0} → (ℕ → Bool) → (ℕ → A) → Face → List (Side A)
-faceSides sign name k = seen k.high (squareSides sign name k)
+unfoldable pub face_sides : {A : Type 0} → (ℕ → Bool) → (ℕ → A) → Face → List (Side A)
+face_sides sign name k = seen k.high (square_sides sign name k)
 
-unfoldable pub facesSides : {A : Type 0} → (ℕ → Bool) → (ℕ → A) → List Face → List (Side A)
-facesSides sign name [] = []
-facesSides sign name (k ∷ ks) = faceSides sign name k ++ facesSides sign name ks
+unfoldable pub faces_sides : {A : Type 0} → (ℕ → Bool) → (ℕ → A) → List Face → List (Side A)
+faces_sides sign name [] = []
+faces_sides sign name (k ∷ ks) = face_sides sign name k ++ faces_sides sign name ks
 
 -- the sides of the triangles that the row of a sign byte names
-unfoldable pub rowSides : ℕ → List (Side ℕ)
-rowSides s = sides (rowEdges s)
+unfoldable pub row_sides : ℕ → List (Side ℕ)
+row_sides s = sides (row_edges s)

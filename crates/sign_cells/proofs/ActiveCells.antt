@@ -9,18 +9,18 @@ use lib.Dec.{eqb}
 use lib.Ieee.{Float}
 use borrow.Author.Tests.{eqb-true, not-false}
 use Rattle.marching_cubes_tables.specs.Rule.{bit_at}
-use Rattle.walk.specs.Walk.{Inside, bit, signs, cellEdges}
+use Rattle.walk.specs.Walk.{Inside, bit, signs, cell_edges}
 use Rattle.walk.proofs.Bools.{or_split}
-use Rattle.walk.proofs.CellEdges.{cellEdges-outside, cellEdges-inside}
-use Rattle.lent_mesh.specs.Grid.{insideOf}
-use Rattle.sign_cells.specs.Cells.{cells_in, mixed, activeWord}
-use Rattle.sign_words.proofs.Words.{wordOf-lt, wordOf-bit}
+use Rattle.walk.proofs.CellEdges.{cell_edges-outside, cell_edges-inside}
+use Rattle.lent_mesh.specs.Grid.{inside_of}
+use Rattle.sign_cells.specs.Cells.{cells_in, mixed, active_word}
+use Rattle.sign_words.proofs.Words.{word_of-lt, word_of-bit}
 
-pub mixed-none : (g : Inside) (x y z : ℕ) → mixed g x y z ≡ false → cellEdges g x y z ≡ []
+pub mixed-none : (g : Inside) (x y z : ℕ) → mixed g x y z ≡ false → cell_edges g x y z ≡ []
 unfolding mixed
 mixed-none g x y z h =
     let s = signs g x y z in
-    ⊎_elim (λ (e : eqb s 0 ≡ true). cellEdges-outside g x y z (eqb-true s 0 e)) (λ (e : eqb s 255 ≡ true). cellEdges-inside g x y z (eqb-true s 255 e))
+    ⊎_elim (λ (e : eqb s 0 ≡ true). cell_edges-outside g x y z (eqb-true s 0 e)) (λ (e : eqb s 255 ≡ true). cell_edges-inside g x y z (eqb-true s 255 e))
     (or_split (eqb s 0) (eqb s 255) (not-false (eqb s 0 || eqb s 255) h))
 
 pub bit-none : (b : Bool) → bit b ≡ 0 → b ≡ false
@@ -28,11 +28,11 @@ bit-none true e = absurd (omega arith)
 bit-none false e = refl
 
 module _ (n : ℕ) (samples : List Float) (y z k : ℕ) where
-  pub activeWord-lt : activeWord n samples y z k < 2 ^ cells_in n k
-  activeWord-lt = wordOf-lt (λ i. mixed (insideOf n samples) (32 * k + i) y z) (cells_in n k)
+  pub active_word-lt : active_word n samples y z k < 2 ^ cells_in n k
+  active_word-lt = word_of-lt (λ i. mixed (inside_of n samples) (32 * k + i) y z) (cells_in n k)
 
-  pub activeWord-bit : (i : ℕ) → i < cells_in n k → bit_at (activeWord n samples y z k) i ≡ bit (mixed (insideOf n samples) (32 * k + i) y z)
-  activeWord-bit i h = wordOf-bit (λ i. mixed (insideOf n samples) (32 * k + i) y z) (cells_in n k) i h
+  pub active_word-bit : (i : ℕ) → i < cells_in n k → bit_at (active_word n samples y z k) i ≡ bit (mixed (inside_of n samples) (32 * k + i) y z)
+  active_word-bit i h = word_of-bit (λ i. mixed (inside_of n samples) (32 * k + i) y z) (cells_in n k) i h
 
-  pub activeWord-idle : (i : ℕ) → i < cells_in n k → bit_at (activeWord n samples y z k) i ≡ 0 → cellEdges (insideOf n samples) (32 * k + i) y z ≡ []
-  activeWord-idle i h e = mixed-none (insideOf n samples) (32 * k + i) y z (bit-none (mixed (insideOf n samples) (32 * k + i) y z) (sym (activeWord-bit i h) ∙ e))
+  pub active_word-idle : (i : ℕ) → i < cells_in n k → bit_at (active_word n samples y z k) i ≡ 0 → cell_edges (inside_of n samples) (32 * k + i) y z ≡ []
+  active_word-idle i h e = mixed-none (inside_of n samples) (32 * k + i) y z (bit-none (mixed (inside_of n samples) (32 * k + i) y z) (sym (active_word-bit i h) ∙ e))

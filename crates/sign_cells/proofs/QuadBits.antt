@@ -15,26 +15,26 @@ use Rattle.marching_cubes_tables.specs.Rule.{bit_at}
 use Rattle.marching_cubes_tables.proofs.Tests.{both_left, both_right}
 use Rattle.walk.specs.Walk.{bit, signs}
 use Rattle.walk.proofs.SignByte.{byte, signs-byte}
-use Rattle.lent_mesh.specs.Grid.{insideOf}
+use Rattle.lent_mesh.specs.Grid.{inside_of}
 use Rattle.sign_cells.specs.declared.Quad.{Quad}
-use Rattle.sign_cells.specs.Cells.{RowSigns, QuadOf, cells_in, mixed, activeWord}
-use Rattle.sign_words.proofs.Words.{wordOf-of-bits}
+use Rattle.sign_cells.specs.Cells.{RowSigns, QuadOf, cells_in, mixed, active_word}
+use Rattle.sign_words.proofs.Words.{word_of-of-bits}
 use Rattle.sign_words.proofs.OneBit.{and-bit, or-bit, xor-bit, shift-bit}
 
 -- ---- a test over so many Bools, computed, and what it says of each list of them
 
-abbrev allBools : ℕ → (List Bool → Bool) → Bool
-allBools zero f = f []
-allBools (suc k) f = allBools k (λ l. f (true ∷ l)) && allBools k (λ l. f (false ∷ l))
+abbrev all_bools : ℕ → (List Bool → Bool) → Bool
+all_bools zero f = f []
+all_bools (suc k) f = all_bools k (λ l. f (true ∷ l)) && all_bools k (λ l. f (false ∷ l))
 
-allBools-at : (k : ℕ) (f : List Bool → Bool) → T (allBools k f) → (l : List Bool) → length l ≡ k → T (f l)
-allBools-at zero f t [] h = t
-allBools-at zero f t (b ∷ l) h = absurd (omega arith)
-allBools-at (suc k) f t [] h = absurd (omega arith)
-allBools-at (suc k) f t (true ∷ l) h =
-    allBools-at k (λ l. f (true ∷ l)) (both_left (allBools k (λ l. f (true ∷ l))) (allBools k (λ l. f (false ∷ l))) t) l (suc_inj h)
-allBools-at (suc k) f t (false ∷ l) h =
-    allBools-at k (λ l. f (false ∷ l)) (both_right (allBools k (λ l. f (true ∷ l))) (allBools k (λ l. f (false ∷ l))) t) l (suc_inj h)
+all_bools-at : (k : ℕ) (f : List Bool → Bool) → T (all_bools k f) → (l : List Bool) → length l ≡ k → T (f l)
+all_bools-at zero f t [] h = t
+all_bools-at zero f t (b ∷ l) h = absurd (omega arith)
+all_bools-at (suc k) f t [] h = absurd (omega arith)
+all_bools-at (suc k) f t (true ∷ l) h =
+    all_bools-at k (λ l. f (true ∷ l)) (both_left (all_bools k (λ l. f (true ∷ l))) (all_bools k (λ l. f (false ∷ l))) t) l (suc_inj h)
+all_bools-at (suc k) f t (false ∷ l) h =
+    all_bools-at k (λ l. f (false ∷ l)) (both_right (all_bools k (λ l. f (true ∷ l))) (all_bools k (λ l. f (false ∷ l))) t) l (suc_inj h)
 
 -- ---- the active word, bit by bit
 
@@ -53,42 +53,42 @@ differs l =
     eqb (bit_xor (bit (some (p 0) (p 1) (p 2) (p 3) || some (p 4) (p 5) (p 6) (p 7))) (bit (every (p 0) (p 1) (p 2) (p 3) && every (p 4) (p 5) (p 6) (p 7))))
     (bit (not (eqb s 0 || eqb s 255)))
 
-all-differ : T (allBools 8 differs)
+all-differ : T (all_bools 8 differs)
 all-differ = tt
 
 xor-mixed : (a0 b0 c0 d0 a1 b1 c1 d1 : Bool)
     → bit_xor (bit (some a0 b0 c0 d0 || some a1 b1 c1 d1)) (bit (every a0 b0 c0 d0 && every a1 b1 c1 d1))
     ≡ bit (not (eqb (byte a0 a1 b1 b0 c0 c1 d1 d0) 0 || eqb (byte a0 a1 b1 b0 c0 c1 d1 d0) 255))
 xor-mixed a0 b0 c0 d0 a1 b1 c1 d1 =
-    eqb→eq _ _ (allBools-at 8 differs all-differ (a0 ∷ b0 ∷ c0 ∷ d0 ∷ a1 ∷ b1 ∷ c1 ∷ d1 ∷ []) refl)
+    eqb→eq _ _ (all_bools-at 8 differs all-differ (a0 ∷ b0 ∷ c0 ∷ d0 ∷ a1 ∷ b1 ∷ c1 ∷ d1 ∷ []) refl)
 
 -- the code's words
-unfoldable pub someWord : ℕ → ℕ → ℕ → ℕ → ℕ
-someWord a b c d = bit_or (bit_or (bit_or a b) c) d
+unfoldable pub some_word : ℕ → ℕ → ℕ → ℕ → ℕ
+some_word a b c d = bit_or (bit_or (bit_or a b) c) d
 
-unfoldable pub everyWord : ℕ → ℕ → ℕ → ℕ → ℕ
-everyWord a b c d = bit_and (bit_and (bit_and a b) c) d
+unfoldable pub every_word : ℕ → ℕ → ℕ → ℕ → ℕ
+every_word a b c d = bit_and (bit_and (bit_and a b) c) d
 
-unfoldable pub mixedWord : ℕ → ℕ → ℕ → ℕ → ℕ
-mixedWord a b c d = bit_xor (bit_or (someWord a b c d) (someWord a b c d / 2 ^ 1)) (bit_and (everyWord a b c d) (everyWord a b c d / 2 ^ 1))
+unfoldable pub mixed_word : ℕ → ℕ → ℕ → ℕ → ℕ
+mixed_word a b c d = bit_xor (bit_or (some_word a b c d) (some_word a b c d / 2 ^ 1)) (bit_and (every_word a b c d) (every_word a b c d / 2 ^ 1))
 
 module _ (a b c d j : ℕ) (p q r s : Bool) (ea : bit_at a j ≡ bit p) (eb : bit_at b j ≡ bit q) (ec : bit_at c j ≡ bit r) (ed : bit_at d j ≡ bit s) where
-  some-bit : bit_at (someWord a b c d) j ≡ bit (some p q r s)
-  unfolding someWord
+  some-bit : bit_at (some_word a b c d) j ≡ bit (some p q r s)
+  unfolding some_word
   some-bit = or-bit (bit_or (bit_or a b) c) d j ((p || q) || r) s (or-bit (bit_or a b) c j (p || q) r (or-bit a b j p q ea eb) ec) ed
 
-  every-bit : bit_at (everyWord a b c d) j ≡ bit (every p q r s)
-  unfolding everyWord
+  every-bit : bit_at (every_word a b c d) j ≡ bit (every p q r s)
+  unfolding every_word
   every-bit = and-bit (bit_and (bit_and a b) c) d j ((p && q) && r) s (and-bit (bit_and a b) c j (p && q) r (and-bit a b j p q ea eb) ec) ed
 
 mixed-bit : (a b c d i : ℕ) (a0 b0 c0 d0 a1 b1 c1 d1 : Bool)
     → bit_at a i ≡ bit a0 → bit_at b i ≡ bit b0 → bit_at c i ≡ bit c0 → bit_at d i ≡ bit d0
     → bit_at a (i + 1) ≡ bit a1 → bit_at b (i + 1) ≡ bit b1 → bit_at c (i + 1) ≡ bit c1 → bit_at d (i + 1) ≡ bit d1
-    → bit_at (mixedWord a b c d) i ≡ bit (not (eqb (byte a0 a1 b1 b0 c0 c1 d1 d0) 0 || eqb (byte a0 a1 b1 b0 c0 c1 d1 d0) 255))
-unfolding mixedWord
+    → bit_at (mixed_word a b c d) i ≡ bit (not (eqb (byte a0 a1 b1 b0 c0 c1 d1 d0) 0 || eqb (byte a0 a1 b1 b0 c0 c1 d1 d0) 255))
+unfolding mixed_word
 mixed-bit a b c d i a0 b0 c0 d0 a1 b1 c1 d1 ea eb ec ed fa fb fc fd =
-    let o = someWord a b c d in
-    let e = everyWord a b c d in
+    let o = some_word a b c d in
+    let e = every_word a b c d in
     xor-bit (bit_or o (o / 2 ^ 1)) (bit_and e (e / 2 ^ 1)) i (some a0 b0 c0 d0 || some a1 b1 c1 d1) (every a0 b0 c0 d0 && every a1 b1 c1 d1)
     (or-bit o (o / 2 ^ 1) i (some a0 b0 c0 d0) (some a1 b1 c1 d1)
     (some-bit a b c d i a0 b0 c0 d0 ea eb ec ed) (shift-bit o i ∙ some-bit a b c d (i + 1) a1 b1 c1 d1 fa fb fc fd))
@@ -105,13 +105,13 @@ two-bits a i = four (a / 2 ^ i) ∙ ap (λ (x : ℕ). bit_at a i + 2 * (x % 2)) 
     four m = omega arith
 
 -- as the code puts it together
-unfoldable pub caseNumber : ℕ → ℕ → ℕ → ℕ → ℕ → ℕ
-caseNumber a b c d i =
+unfoldable pub case_number : ℕ → ℕ → ℕ → ℕ → ℕ → ℕ
+case_number a b c d i =
     a / 2 ^ i % 4 + 4 * (b / 2 ^ i % 4 / 2) + 8 * (b / 2 ^ i % 4 % 2) + 16 * (c / 2 ^ i % 4) + 64 * (d / 2 ^ i % 4 / 2) + 128 * (d / 2 ^ i % 4 % 2)
 
-pub caseNumber-lt : (a b c d i : ℕ) → caseNumber a b c d i < 256
-unfolding caseNumber
-caseNumber-lt a b c d i = bound (a / 2 ^ i) (b / 2 ^ i) (c / 2 ^ i) (d / 2 ^ i)
+pub case_number-lt : (a b c d i : ℕ) → case_number a b c d i < 256
+unfolding case_number
+case_number-lt a b c d i = bound (a / 2 ^ i) (b / 2 ^ i) (c / 2 ^ i) (d / 2 ^ i)
   where
     bound : (a b c d : ℕ) → a % 4 + 4 * (b % 4 / 2) + 8 * (b % 4 % 2) + 16 * (c % 4) + 64 * (d % 4 / 2) + 128 * (d % 4 % 2) < 256
     bound a b c d = omega arith
@@ -131,12 +131,12 @@ halves x p q e = (rw e (high p q), rw e (low p q))
     low false true = refl
     low false false = refl
 
-caseNumber-byte : (a b c d i : ℕ) (a0 b0 c0 d0 a1 b1 c1 d1 : Bool)
+case_number-byte : (a b c d i : ℕ) (a0 b0 c0 d0 a1 b1 c1 d1 : Bool)
     → bit_at a i ≡ bit a0 → bit_at b i ≡ bit b0 → bit_at c i ≡ bit c0 → bit_at d i ≡ bit d0
     → bit_at a (i + 1) ≡ bit a1 → bit_at b (i + 1) ≡ bit b1 → bit_at c (i + 1) ≡ bit c1 → bit_at d (i + 1) ≡ bit d1
-    → caseNumber a b c d i ≡ byte a0 a1 b1 b0 c0 c1 d1 d0
-unfolding caseNumber
-caseNumber-byte a b c d i a0 b0 c0 d0 a1 b1 c1 d1 ea eb ec ed fa fb fc fd =
+    → case_number a b c d i ≡ byte a0 a1 b1 b0 c0 c1 d1 d0
+unfolding case_number
+case_number-byte a b c d i a0 b0 c0 d0 a1 b1 c1 d1 ea eb ec ed fa fb fc fd =
     let two : (w : ℕ) (p q : Bool) → bit_at w i ≡ bit p → bit_at w (i + 1) ≡ bit q → w / 2 ^ i % 4 ≡ bit p + 2 * bit q =
     λ w p q e f. two-bits w i ∙ rw (e, f) in
     let hb = halves (b / 2 ^ i % 4) b0 b1 (two b b0 b1 eb fb) in
@@ -151,18 +151,18 @@ caseNumber-byte a b c d i a0 b0 c0 d0 a1 b1 c1 d1 ea eb ec ed fa fb fc fd =
 -- ---- at a cell of the grid
 
 module _ (n : ℕ) (samples : List Float) (k i : ℕ) (cell : i < cells_in n k) where
-  bit-here : (word y z : ℕ) → RowSigns n samples y z k word → bit_at word i ≡ bit (insideOf n samples (32 * k + i) y z)
+  bit-here : (word y z : ℕ) → RowSigns n samples y z k word → bit_at word i ≡ bit (inside_of n samples (32 * k + i) y z)
   bit-here word y z e = e i (omega arith) (omega arith)
 
-  bit-right : (word y z : ℕ) → RowSigns n samples y z k word → bit_at word (i + 1) ≡ bit (insideOf n samples (32 * k + i + 1) y z)
+  bit-right : (word y z : ℕ) → RowSigns n samples y z k word → bit_at word (i + 1) ≡ bit (inside_of n samples (32 * k + i + 1) y z)
   bit-right word y z e =
-      e (i + 1) (omega arith) (omega arith) ∙ ap (λ (x : ℕ). bit (insideOf n samples x y z)) (sym (add_assoc (32 * k) i 1))
+      e (i + 1) (omega arith) (omega arith) ∙ ap (λ (x : ℕ). bit (inside_of n samples x y z)) (sym (add_assoc (32 * k) i 1))
 
   module _ (y z : ℕ) (q : Quad) (known : QuadOf n samples y z k q) where
-    mixedWord-bit : bit_at (mixedWord q.a q.b q.c q.d) i ≡ bit (mixed (insideOf n samples) (32 * k + i) y z)
+    mixed_word-bit : bit_at (mixed_word q.a q.b q.c q.d) i ≡ bit (mixed (inside_of n samples) (32 * k + i) y z)
     unfolding mixed
-    mixedWord-bit =
-        let g = insideOf n samples in
+    mixed_word-bit =
+        let g = inside_of n samples in
         let x = 32 * k + i in
         mixed-bit q.a q.b q.c q.d i
         (g x y z) (g x (y + 1) z) (g x y (z + 1)) (g x (y + 1) (z + 1)) (g (x + 1) y z) (g (x + 1) (y + 1) z) (g (x + 1) y (z + 1)) (g (x + 1) (y + 1) (z + 1))
@@ -170,19 +170,19 @@ module _ (n : ℕ) (samples : List Float) (k i : ℕ) (cell : i < cells_in n k) 
         (bit-here q.c y (z + 1) known.high) (bit-here q.d (y + 1) (z + 1) known.high-next)
         (bit-right q.a y z known.low) (bit-right q.b (y + 1) z known.low-next)
         (bit-right q.c y (z + 1) known.high) (bit-right q.d (y + 1) (z + 1) known.high-next)
-        ∙ ap (λ (s : ℕ). bit (not (eqb s 0 || eqb s 255))) (sym (signs-byte (insideOf n samples) (32 * k + i) y z))
+        ∙ ap (λ (s : ℕ). bit (not (eqb s 0 || eqb s 255))) (sym (signs-byte (inside_of n samples) (32 * k + i) y z))
 
-    pub caseNumber-signs : caseNumber q.a q.b q.c q.d i ≡ signs (insideOf n samples) (32 * k + i) y z
-    caseNumber-signs =
-        let g = insideOf n samples in
+    pub case_number-signs : case_number q.a q.b q.c q.d i ≡ signs (inside_of n samples) (32 * k + i) y z
+    case_number-signs =
+        let g = inside_of n samples in
         let x = 32 * k + i in
-        caseNumber-byte q.a q.b q.c q.d i
+        case_number-byte q.a q.b q.c q.d i
         (g x y z) (g x (y + 1) z) (g x y (z + 1)) (g x (y + 1) (z + 1)) (g (x + 1) y z) (g (x + 1) (y + 1) z) (g (x + 1) y (z + 1)) (g (x + 1) (y + 1) (z + 1))
         (bit-here q.a y z known.low) (bit-here q.b (y + 1) z known.low-next)
         (bit-here q.c y (z + 1) known.high) (bit-here q.d (y + 1) (z + 1) known.high-next)
         (bit-right q.a y z known.low) (bit-right q.b (y + 1) z known.low-next)
         (bit-right q.c y (z + 1) known.high) (bit-right q.d (y + 1) (z + 1) known.high-next)
-        ∙ sym (signs-byte (insideOf n samples) (32 * k + i) y z)
+        ∙ sym (signs-byte (inside_of n samples) (32 * k + i) y z)
 
 -- ---- the active word, cut at the row's end
 
@@ -191,9 +191,9 @@ mod-again m c h =
     let s : (32 - c) + c ≡ 32 = omega arith in
     subst (λ (j : ℕ). m % 2 ^ j % 2 ^ c ≡ m % 2 ^ c) s (mod-mod-pow m (32 - c) c)
 
-pub mixedWord-active : (n : ℕ) (samples : List Float) (y z k : ℕ) (q : Quad) → QuadOf n samples y z k q
-    → mixedWord q.a q.b q.c q.d % 2 ^ 32 % 2 ^ cells_in n k ≡ activeWord n samples y z k
-mixedWord-active n samples y z k q known =
-    mod-again (mixedWord q.a q.b q.c q.d) (cells_in n k) (omega arith)
-    ∙ wordOf-of-bits (mixedWord q.a q.b q.c q.d) (cells_in n k) (λ i. mixed (insideOf n samples) (32 * k + i) y z)
-    (λ i l. mixedWord-bit n samples k i l y z q known)
+pub mixed_word-active : (n : ℕ) (samples : List Float) (y z k : ℕ) (q : Quad) → QuadOf n samples y z k q
+    → mixed_word q.a q.b q.c q.d % 2 ^ 32 % 2 ^ cells_in n k ≡ active_word n samples y z k
+mixed_word-active n samples y z k q known =
+    mod-again (mixed_word q.a q.b q.c q.d) (cells_in n k) (omega arith)
+    ∙ word_of-of-bits (mixed_word q.a q.b q.c q.d) (cells_in n k) (λ i. mixed (inside_of n samples) (32 * k + i) y z)
+    (λ i l. mixed_word-bit n samples k i l y z q known)

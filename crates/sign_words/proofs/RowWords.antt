@@ -15,15 +15,15 @@ use mir.Val.{bool_byte}
 use borrow.Author.Tests.{lt-ltb, le-ltb}
 use Rattle.marching_cubes_impl.specs.Sample.{inside}
 use Rattle.lent_mesh.proofs.Places.{in-row-lt}
-use Rattle.sign_words.specs.Words.{word_of, sign_word, wordFrom, insideRow, LayerWords, WordsFilled, RowFilled}
-use Rattle.sign_words.proofs.Words.{wordOf-turn, wordOf-same, wordOf-top}
+use Rattle.sign_words.specs.Words.{word_of, sign_word, word_from, inside_row, LayerWords, WordsFilled, RowFilled}
+use Rattle.sign_words.proofs.Words.{word_of-turn, word_of-same, word_of-top}
 
 -- ---- a turn of the loop of `part_word`
 
 pub sign-turn : (samples : List Float) (at i word : ℕ) (sign : Bool) → i < 32 → word ≡ sign_word samples at i → sign ≡ inside (get_or samples (at + i) nan)
     → bit_or word (bool_byte sign * 2 ^ i % 2 ^ 32) ≡ sign_word samples at (i + 1)
 sign-turn samples at i word sign h e s =
-    ap (λ (b : Bool). bit_or word (bool_byte b * 2 ^ i % 2 ^ 32)) s ∙ wordOf-turn (λ j. inside (get_or samples (at + j) nan)) i word h e
+    ap (λ (b : Bool). bit_or word (bool_byte b * 2 ^ i % 2 ^ 32)) s ∙ word_of-turn (λ j. inside (get_or samples (at + j) nan)) i word h e
 
 -- ---- one word
 
@@ -39,19 +39,19 @@ module _ (samples : List Float) (start n k : ℕ) where
   past_row : (i : ℕ) → n ≤ 32 * k + i → known i ≡ false
   past_row i h = ap (λ (b : Bool). b && inside (get_or samples (start + (32 * k + i)) nan)) (le-ltb (32 * k + i) n h)
 
-  pub wordFrom-whole : 32 * k + 32 ≤ n → sign_word samples (start + 32 * k) 32 ≡ wordFrom samples start n k
-  wordFrom-whole h = wordOf-same (λ i. inside (get_or samples (start + 32 * k + i) nan)) known 32 (λ i l. in_row i (omega arith))
+  pub word_from-whole : 32 * k + 32 ≤ n → sign_word samples (start + 32 * k) 32 ≡ word_from samples start n k
+  word_from-whole h = word_of-same (λ i. inside (get_or samples (start + 32 * k + i) nan)) known 32 (λ i l. in_row i (omega arith))
 
-  pub wordFrom-part : 32 * k < n → n < 32 * k + 32 → sign_word samples (start + 32 * k) (n - 32 * k) ≡ wordFrom samples start n k
-  wordFrom-part h l =
+  pub word_from-part : 32 * k < n → n < 32 * k + 32 → sign_word samples (start + 32 * k) (n - 32 * k) ≡ word_from samples start n k
+  word_from-part h l =
       let count : (n - 32 * k) + (32 - (n - 32 * k)) ≡ 32 = omega arith in
-      wordOf-same (λ i. inside (get_or samples (start + 32 * k + i) nan)) known (n - 32 * k) (λ i m. in_row i (omega arith))
-      ∙ sym (wordOf-top known (n - 32 * k) (32 - (n - 32 * k)) (λ i a b. past_row i (omega arith)))
+      word_of-same (λ i. inside (get_or samples (start + 32 * k + i) nan)) known (n - 32 * k) (λ i m. in_row i (omega arith))
+      ∙ sym (word_of-top known (n - 32 * k) (32 - (n - 32 * k)) (λ i a b. past_row i (omega arith)))
       ∙ ap (word_of known) count
 
-  pub wordFrom-past : n ≤ 32 * k → 0 ≡ wordFrom samples start n k
+  pub word_from-past : n ≤ 32 * k → 0 ≡ word_from samples start n k
   unfolding word_of
-  wordFrom-past h = sym (wordOf-top known 0 32 (λ i a b. past_row i (omega arith)))
+  word_from-past h = sym (word_of-top known 0 32 (λ i a b. past_row i (omega arith)))
 
 -- ---- the four words of a row, and the rows of a layer
 
@@ -60,7 +60,7 @@ module _ (n : ℕ) (samples : List Float) (z : ℕ) where
   row-none y from before = record { words = λ j h l. absurd (omega arith); kept = λ i l. refl }
 
   pub row-suc : (y from k word : ℕ) (before after : List ℕ) → y < 128 → from ≤ k → k < 4 → length after ≡ 513 → WordsFilled n samples y z from k before after
-      → word ≡ word_of (λ i. insideRow n samples y z (32 * k + i)) 32 → WordsFilled n samples y z from (k + 1) before (set after (4 * y + k) word)
+      → word ≡ word_of (λ i. inside_row n samples y z (32 * k + i)) 32 → WordsFilled n samples y z from (k + 1) before (set after (4 * y + k) word)
   row-suc y from k word before after hy hf hk long begun e =
       record {
         words = λ j h l.
@@ -87,7 +87,7 @@ module _ (n : ℕ) (samples : List Float) (z : ℕ) where
 
   -- rows below y are filled
   abbrev pub RowsFilled : ℕ → List ℕ → Type 0
-  RowsFilled y words = (j k : ℕ) → j < y → k < 4 → get_or words (4 * j + k) 0 ≡ word_of (λ i. insideRow n samples j z (32 * k + i)) 32
+  RowsFilled y words = (j k : ℕ) → j < y → k < 4 → get_or words (4 * j + k) 0 ≡ word_of (λ i. inside_row n samples j z (32 * k + i)) 32
 
   pub rows-suc : (y : ℕ) (before after : List ℕ) → RowsFilled y before → RowFilled n samples y z before after → RowsFilled (y + 1) after
   rows-suc y before after filled new j k hj hk =

@@ -2,7 +2,7 @@
 // read here once for each layer. Sizes are 2 to 128.
 ghost use Rattle.std.specs.Prelude.{◌≡◌, ◌+◌, ◌*◌, ◌/◌, ◌≤◌, ◌<◌, length};
 ghost use Rattle.marching_cubes_impl.specs.Sample.{inside};
-ghost use Rattle.sign_words.specs.Words.{word_of, keptBit, sign_word, wordFrom, LayerWords, WordsFrom, RowFilled};
+ghost use Rattle.sign_words.specs.Words.{word_of, kept_bit, sign_word, word_from, LayerWords, WordsFrom, RowFilled};
 
 // The sign of a sample. A NaN is outside.
 fn is_inside(sample: f32) -> bool
@@ -14,7 +14,7 @@ fn is_inside(sample: f32) -> bool
 // Every bit, but for bit i where the sample is outside.
 fn kept(inside: bool, i: usize) -> u32
     requires { i < 32 }
-    ensures { result ≡ word_of (keptBit inside i) 32 }
+    ensures { result ≡ word_of (kept_bit inside i) 32 }
 {
     if inside {
         0xFFFF_FFFF
@@ -56,7 +56,7 @@ fn part_word(samples: &[f32], at: usize, count: usize) -> u32
 // bits are 0.
 fn end_word(samples: &[f32], start: usize, n: usize, k: usize) -> u32
     requires { (k < 4) × (n ≤ 128) × (start + n ≤ length samples.now) × (n < 32 * k + 32) }
-    ensures { result ≡ wordFrom samples.now start n k }
+    ensures { result ≡ word_from samples.now start n k }
 {
     let first = 32 * k;
     if first < n {

@@ -12,10 +12,10 @@ abbrev pub all_below : ℕ → (ℕ → Bool) → Bool
 all_below zero f = true
 all_below (suc k) f = f k && all_below k f
 
-pub allBelow-at : (k : ℕ) (f : ℕ → Bool) → T (all_below k f) → (i : ℕ) → i < k → T (f i)
-allBelow-at zero f t i h = absurd (not-suc-le-zero h)
-allBelow-at (suc k) f t i h =
+pub all_below-at : (k : ℕ) (f : ℕ → Bool) → T (all_below k f) → (i : ℕ) → i < k → T (f i)
+all_below-at zero f t i h = absurd (not-suc-le-zero h)
+all_below-at (suc k) f t i h =
     elim (dec_lt i k) [
-      | yes a ↦ allBelow-at k f (both_right (f k) (all_below k f) t) i a
+      | yes a ↦ all_below-at k f (both_right (f k) (all_below k f) t) i a
       | no a ↦ let e : k ≡ i = omega arith in subst (λ (j : ℕ). T (f j)) e (both_left (f k) (all_below k f) t)
     ]

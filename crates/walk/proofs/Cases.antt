@@ -7,11 +7,11 @@ use mathlib.Core.List.{List, [], ◌∷◌, map}
 use Prim.Native.Nat.{ℕ, ◌+◌, ◌*◌}
 use lib.Dec.{eqb}
 use lib.ListN.{length, get_or}
-use Rattle.marching_cubes_tables.specs.Tables.{corners, edgeConnection, triangleConnection}
-use Rattle.marching_cubes_tables.specs.Rule.{rowEdges, member}
-use Rattle.walk.specs.Walk.{Visit, Inside, times, signs, cellEdges, cell, cells, rows, walk, listing, visits}
-use Rattle.walk.specs.Edges.{Edge, axisOf, lowOffset, edge_of, crosses, inBox, same, spread, crossingAt, crossings}
-use Rattle.walk.specs.Cache.{fresh, stored, putColumn, getColumn, inLayer, put, found, get, advanceCell, advanceRow, advanceLayer}
+use Rattle.marching_cubes_tables.specs.Tables.{corners, edge_connection, triangle_connection}
+use Rattle.marching_cubes_tables.specs.Rule.{row_edges, member}
+use Rattle.walk.specs.Walk.{Visit, Inside, times, signs, cell_edges, cell, cells, rows, walk, listing, visits}
+use Rattle.walk.specs.Edges.{Edge, axis_of, low_offset, edge_of, crosses, in_box, same, spread, crossing_at, crossings}
+use Rattle.walk.specs.Cache.{fresh, stored, put_column, get_column, in_layer, put, found, get, advance_cell, advance_row, advance_layer}
 use Rattle.walk.specs.Numbering.{Mesh, choose, hooks, mesh, joined, number, crate}
 
 abbrev pub on : ℕ → ℕ → ℕ → ℕ → Edge
@@ -64,14 +64,14 @@ w1-to-w6 =
     ∷ []
 
 pub cases-hold : map (λ (c : Case). answer 2 c.numbering c.inside) w1-to-w6 ≡ map (λ (c : Case). c.expected) w1-to-w6
-unfolding corners edgeConnection triangleConnection rowEdges times signs cellEdges cell cells rows walk axisOf lowOffset edge_of same choose hooks mesh joined number
-    crate fresh stored putColumn getColumn inLayer put found get advanceCell advanceRow advanceLayer
+unfolding corners edge_connection triangle_connection row_edges times signs cell_edges cell cells rows walk axis_of low_offset edge_of same choose hooks mesh joined number
+    crate fresh stored put_column get_column in_layer put found get advance_cell advance_row advance_layer
 cases-hold = refl
 
 -- W4's grid, and the one whose last sample alone is inside
 pub crossings-hold : map (λ (places : List ℕ). crossings (inside-at 2 places) 2 2) ((4 ∷ []) ∷ (11 ∷ []) ∷ [])
     ≡ (on 0 0 0 1 ∷ on 1 0 0 1 ∷ on 2 0 0 0 ∷ on 2 0 0 1 ∷ []) ∷ (on 0 0 1 2 ∷ on 1 1 0 2 ∷ on 2 1 1 1 ∷ []) ∷ []
-unfolding crosses inBox spread crossingAt crossings
+unfolding crosses in_box spread crossing_at crossings
 crossings-hold = refl
 
 -- ---- the stale entry
@@ -99,6 +99,6 @@ stale-in g =
 
 pub stale-vertex : stale-in (inside-at 4 (0 ∷ 1 ∷ 5 ∷ 20 ∷ 52 ∷ []))
     ≡ record { made = 25; written = 45; index = 14; made-on = on 0 0 1 1; visited = on 0 0 1 3 }
-unfolding corners edgeConnection triangleConnection rowEdges times signs cellEdges cell cells rows walk listing visits axisOf lowOffset edge_of choose hooks mesh
-    crate fresh stored putColumn getColumn inLayer put found get advanceCell advanceRow advanceLayer
+unfolding corners edge_connection triangle_connection row_edges times signs cell_edges cell cells rows walk listing visits axis_of low_offset edge_of choose hooks mesh
+    crate fresh stored put_column get_column in_layer put found get advance_cell advance_row advance_layer
 stale-vertex = refl

@@ -9,15 +9,15 @@ use native.Mathlib.Omega.{arith}
 use lib.Dec.{eqb}
 use lib.ListN.{length, get_or}
 use borrow.Author.Tests.{eqb-true, eq-eqb, lt-ltb}
-use Rattle.marching_cubes_tables.specs.Tables.{edgeEnd, triangleConnection}
-use Rattle.marching_cubes_tables.specs.Rule.{rowEdges, bit_at, member, RowRule}
+use Rattle.marching_cubes_tables.specs.Tables.{edge_end, triangle_connection}
+use Rattle.marching_cubes_tables.specs.Rule.{row_edges, bit_at, member, RowRule}
 use Rattle.marching_cubes_tables.proofs.Rule.{row-rule}
-use Rattle.walk.specs.Walk.{Inside, bit, cornerInside, signs, cellEdges}
+use Rattle.walk.specs.Walk.{Inside, bit, corner_inside, signs, cell_edges}
 use Rattle.walk.specs.Edges.{edge_of, crosses}
 use Rattle.walk.proofs.Bools.{or_split}
 use Rattle.walk.proofs.SignByte.{signs-lt, signs-corner}
-use Rattle.walk.proofs.TwelveEdges.{cellEdge}
-use Rattle.walk.proofs.GridEdges.{visit_at, edgeOf-crosses}
+use Rattle.walk.proofs.TwelveEdges.{cell_edge}
+use Rattle.walk.proofs.GridEdges.{visit_at, edge_of-crosses}
 
 -- ---- membership and place
 
@@ -44,44 +44,44 @@ module _ (g : Inside) (x y z : ℕ) where
   rule : RowRule (signs g x y z)
   rule = row-rule (signs g x y z) (signs-lt g x y z)
 
-  pub cellEdges-lt : (j : ℕ) → j < length (cellEdges g x y z) → get_or (cellEdges g x y z) j 0 < 12
-  unfolding cellEdges
-  cellEdges-lt = rule.edge
+  pub cell_edges-lt : (j : ℕ) → j < length (cell_edges g x y z) → get_or (cell_edges g x y z) j 0 < 12
+  unfolding cell_edges
+  cell_edges-lt = rule.edge
 
-  pub cellEdges-most : length (cellEdges g x y z) ≤ 15
-  unfolding cellEdges
-  cellEdges-most = rule.most
+  pub cell_edges-most : length (cell_edges g x y z) ≤ 15
+  unfolding cell_edges
+  cell_edges-most = rule.most
 
-  pub cellEdges-threes : length (cellEdges g x y z) % 3 ≡ 0
-  unfolding cellEdges
-  cellEdges-threes = rule.threes
+  pub cell_edges-threes : length (cell_edges g x y z) % 3 ≡ 0
+  unfolding cell_edges
+  cell_edges-threes = rule.threes
 
   -- a cell whose corners are alike visits nothing
-  pub cellEdges-outside : signs g x y z ≡ 0 → cellEdges g x y z ≡ []
-  unfolding cellEdges rowEdges triangleConnection
-  cellEdges-outside h = ap rowEdges h
+  pub cell_edges-outside : signs g x y z ≡ 0 → cell_edges g x y z ≡ []
+  unfolding cell_edges row_edges triangle_connection
+  cell_edges-outside h = ap row_edges h
 
-  pub cellEdges-inside : signs g x y z ≡ 255 → cellEdges g x y z ≡ []
-  unfolding cellEdges rowEdges triangleConnection
-  cellEdges-inside h = ap rowEdges h
+  pub cell_edges-inside : signs g x y z ≡ 255 → cell_edges g x y z ≡ []
+  unfolding cell_edges row_edges triangle_connection
+  cell_edges-inside h = ap row_edges h
 
   -- a cell visits exactly those of its edges whose ends differ in sign
-  pub cellEdges-crossed : (e : ℕ) → e < 12 → member e (cellEdges g x y z) ≡ crosses g (edge_of (visit_at x y z e))
-  unfolding cellEdges
-  cellEdges-crossed e h =
-      let c = cellEdge e h in
-      let a : Bool = cornerInside g x y z (edgeEnd e 0) in
-      let b : Bool = cornerInside g x y z (edgeEnd e 1) in
+  pub cell_edges-crossed : (e : ℕ) → e < 12 → member e (cell_edges g x y z) ≡ crosses g (edge_of (visit_at x y z e))
+  unfolding cell_edges
+  cell_edges-crossed e h =
+      let c = cell_edge e h in
+      let a : Bool = corner_inside g x y z (edge_end e 0) in
+      let b : Bool = corner_inside g x y z (edge_end e 1) in
       rule.crossed e
-      ∙ ap (λ (t : Bool). t && not (eqb (bit_at (signs g x y z) (edgeEnd e 0)) (bit_at (signs g x y z) (edgeEnd e 1)))) (lt-ltb e 12 h)
-      ∙ rw (signs-corner g x y z (edgeEnd e 0) c.first-corner, signs-corner g x y z (edgeEnd e 1) c.second-corner) (ap not (bit-eqb a b))
-      ∙ sym (edgeOf-crosses x y z e h g)
+      ∙ ap (λ (t : Bool). t && not (eqb (bit_at (signs g x y z) (edge_end e 0)) (bit_at (signs g x y z) (edge_end e 1)))) (lt-ltb e 12 h)
+      ∙ rw (signs-corner g x y z (edge_end e 0) c.first-corner, signs-corner g x y z (edge_end e 1) c.second-corner) (ap not (bit-eqb a b))
+      ∙ sym (edge_of-crosses x y z e h g)
 
   -- the edge of each visit crosses
-  pub visit-crosses : (j : ℕ) → j < length (cellEdges g x y z) → crosses g (edge_of (visit_at x y z (get_or (cellEdges g x y z) j 0))) ≡ true
-  visit-crosses j h = sym (cellEdges-crossed (get_or (cellEdges g x y z) j 0) (cellEdges-lt j h)) ∙ member-at (cellEdges g x y z) j h
+  pub visit-crosses : (j : ℕ) → j < length (cell_edges g x y z) → crosses g (edge_of (visit_at x y z (get_or (cell_edges g x y z) j 0))) ≡ true
+  visit-crosses j h = sym (cell_edges-crossed (get_or (cell_edges g x y z) j 0) (cell_edges-lt j h)) ∙ member-at (cell_edges g x y z) j h
 
   -- and each of its edges that crosses is visited
   pub crossing-visited : (e : ℕ) → e < 12 → crosses g (edge_of (visit_at x y z e)) ≡ true
-      → (j : ℕ) × (j < length (cellEdges g x y z)) × (get_or (cellEdges g x y z) j 0 ≡ e)
-  crossing-visited e h c = member-place e (cellEdges g x y z) (cellEdges-crossed e h ∙ c)
+      → (j : ℕ) × (j < length (cell_edges g x y z)) × (get_or (cell_edges g x y z) j 0 ≡ e)
+  crossing-visited e h c = member-place e (cell_edges g x y z) (cell_edges-crossed e h ∙ c)

@@ -7,12 +7,12 @@ use Prim.Native.Nat.{ℕ, zero, suc, ◌+◌, ◌-◌, ◌*◌, ◌/◌, ◌%◌
 use native.Mathlib.Nat.{not-suc-le-zero, mul-le-mul_right}
 use native.Mathlib.Omega.{arith}
 use lib.ListN.{length}
-use Rattle.walk.specs.Walk.{Visit, Inside, visitOf, cellEdges, listing, visits}
+use Rattle.walk.specs.Walk.{Visit, Inside, visit_of, cell_edges, listing, visits}
 use Rattle.walk.specs.Edges.{edge_of, crosses}
 use Rattle.walk.specs.Numbering.{Numbering, Mesh, empty, choose, hooks, mesh}
 use Rattle.walk.proofs.Each.{Each, length-snoc, each_snoc}
 use Rattle.walk.proofs.GridEdges.{visit_at}
-use Rattle.walk.proofs.CellEdges.{cellEdges-lt, cellEdges-most, cellEdges-threes, visit-crosses}
+use Rattle.walk.proofs.CellEdges.{cell_edges-lt, cell_edges-most, cell_edges-threes, visit-crosses}
 use Rattle.walk.proofs.WalkInduction.{Steps, Alone, walk_kept, walk-holds}
 use Rattle.walk.proofs.Rank.{rank, rank-suc, rank-row-end, rank-layer-end, rank-layers}
 
@@ -28,10 +28,10 @@ pub record Visited (g : Inside) (n layers : ℕ) (v : Visit) : Type 0 where
 abbrev pub no_visit : Visit
 no_visit = visit_at 0 0 0 0
 
-visit-visited : (g : Inside) (n layers z y x j : ℕ) → z < layers → y < n - 1 → x < n - 1 → j < length (cellEdges g x y z)
-    → Visited g n layers (visitOf g x y z j)
+visit-visited : (g : Inside) (n layers z y x j : ℕ) → z < layers → y < n - 1 → x < n - 1 → j < length (cell_edges g x y z)
+    → Visited g n layers (visit_of g x y z j)
 visit-visited g n layers z y x j lz ly lx lj =
-    record { x_lt = lx; y-lt = ly; z-lt = lz; edge-lt = cellEdges-lt g x y z j lj; crosses = visit-crosses g x y z j lj }
+    record { x_lt = lx; y-lt = ly; z-lt = lz; edge-lt = cell_edges-lt g x y z j lj; crosses = visit-crosses g x y z j lj }
 
 -- ---- the list of visits
 
@@ -48,17 +48,17 @@ module _ (g : Inside) (n layers : ℕ) where
         visit = λ z y x j s t lz ly lx lj p.
             let a = p.threes in
             let b = p.most in
-            let l = length-snoc s (visitOf g x y z j) in
+            let l = length-snoc s (visit_of g x y z j) in
             record { thirds = p.thirds; threes = omega arith; most = omega arith };
-        cellEnd = λ z y x s t lz ly lx p.
+        cell_end = λ z y x s t lz ly lx p.
             let a = p.threes in
             let b = p.most in
-            let c = cellEdges-most g x y z in
-            let d = cellEdges-threes g x y z in
+            let c = cell_edges-most g x y z in
+            let d = cell_edges-threes g x y z in
             let r = rank-suc (n - 1) x y z in
-            record { thirds = p.thirds + length (cellEdges g x y z) / 3; threes = omega arith; most = omega arith };
-        rowEnd = λ z y s t lz ly p. let b = p.most in let r = rank-row-end (n - 1) y z in record { thirds = p.thirds; threes = p.threes; most = omega arith };
-        layerEnd = λ z s t lz p. let b = p.most in let r = rank-layer-end (n - 1) z in record { thirds = p.thirds; threes = p.threes; most = omega arith };
+            record { thirds = p.thirds + length (cell_edges g x y z) / 3; threes = omega arith; most = omega arith };
+        row_end = λ z y s t lz ly p. let b = p.most in let r = rank-row-end (n - 1) y z in record { thirds = p.thirds; threes = p.threes; most = omega arith };
+        layer_end = λ z s t lz p. let b = p.most in let r = rank-layer-end (n - 1) z in record { thirds = p.thirds; threes = p.threes; most = omega arith };
       }
 
   listed-end : Listed n layers 0 0 0 (visits g n layers)
@@ -101,10 +101,10 @@ module _ {C : Type 0} (m : Numbering C) (c : C) (g : Inside) (n layers : ℕ) wh
   unfolding hooks listing
   tally-steps =
       record {
-        visit = λ z y x j s t lz ly lx lj p. choose-tally m g n layers (m.look (visitOf g x y z j) s.memory) (visitOf g x y z j) (visit-visited g n layers z y x j lz ly lx lj) s t p;
-        cellEnd = λ z y x s t lz ly lx p. record { one_each = p.one_each; fewer = p.fewer; real = p.real };
-        rowEnd = λ z y s t lz ly p. record { one_each = p.one_each; fewer = p.fewer; real = p.real };
-        layerEnd = λ z s t lz p. record { one_each = p.one_each; fewer = p.fewer; real = p.real };
+        visit = λ z y x j s t lz ly lx lj p. choose-tally m g n layers (m.look (visit_of g x y z j) s.memory) (visit_of g x y z j) (visit-visited g n layers z y x j lz ly lx lj) s t p;
+        cell_end = λ z y x s t lz ly lx p. record { one_each = p.one_each; fewer = p.fewer; real = p.real };
+        row_end = λ z y s t lz ly p. record { one_each = p.one_each; fewer = p.fewer; real = p.real };
+        layer_end = λ z s t lz p. record { one_each = p.one_each; fewer = p.fewer; real = p.real };
       }
 
   tally-end : Tally g n layers (mesh m c g n layers) (visits g n layers)

@@ -7,10 +7,10 @@ use native.Mathlib.Omega.{arith}
 use lib.Dec.{eqb, ltb}
 use borrow.Author.Tests.{eq-eqb, ltb-false}
 use Rattle.walk.specs.Walk.{Visit, Inside}
-use Rattle.walk.specs.Cache.{Cache, fresh, stored, putColumn, inLayer, put, found, get, advanceCell, advanceRow, advanceLayer}
-use Rattle.walk.specs.Numbering.{Numbering, mesh, crate, oneMore}
+use Rattle.walk.specs.Cache.{Cache, fresh, stored, put_column, in_layer, put, found, get, advance_cell, advance_row, advance_layer}
+use Rattle.walk.specs.Numbering.{Numbering, mesh, crate, one_more}
 use Rattle.walk.proofs.Bools.{bool_cases}
-use Rattle.walk.proofs.FirstUse.{oneMore-zero}
+use Rattle.walk.proofs.FirstUse.{one_more-zero}
 use Rattle.walk.proofs.Simulation.{Simulates, meshes-agree}
 
 -- ---- `cells`
@@ -20,14 +20,14 @@ wiped c =
     record { layers0 = c.layers0; layers1 = c.layers1; rows0 = c.rows0; rows1 = c.rows1; cells0 = λ i. 0; cells1 = λ i. 0; current = c.current }
 
 -- the crate numbering with `cells` wiped before every call
-unfoldable pub withoutCells : ℕ → Numbering Cache
-withoutCells n =
+unfoldable pub without_cells : ℕ → Numbering Cache
+without_cells n =
     record {
       look = λ v c. (crate n).look v (wiped c);
       note = λ v i c. (crate n).note v i (wiped c);
-      cellEnd = λ c. advanceCell (wiped c);
-      rowEnd = λ c. advanceRow (wiped c);
-      layerEnd = λ c. advanceLayer (wiped c);
+      cell_end = λ c. advance_cell (wiped c);
+      row_end = λ c. advance_row (wiped c);
+      layer_end = λ c. advance_layer (wiped c);
     }
 
 -- alike but for `cells`, whose place 1 holds 0 in the first
@@ -50,36 +50,36 @@ unfolding stored
 cells-kept true f i h = h
 cells-kept false f i h = h
 
-cells-simulated : (n : ℕ) → Simulates (λ z i. ButCells) n (crate n) (withoutCells n)
-unfolding crate withoutCells wiped put advanceCell advanceRow advanceLayer
+cells-simulated : (n : ℕ) → Simulates (λ z i. ButCells) n (crate n) (without_cells n)
+unfolding crate without_cells wiped put advance_cell advance_row advance_layer
 cells-simulated n =
     record {
-      look = λ z i v c d b r. ap oneMore (cells-get n v.x v.y v.edge c d r);
+      look = λ z i v c d b r. ap one_more (cells-get n v.x v.y v.edge c d r);
       note = λ z i v c d b q r.
           record {
             layers0 = r.layers0;
-            layers1 = ap (λ (f : ℕ → ℕ → ℕ). cond (inLayer v.edge) (stored f (v.y * n + v.x) (stored (f (v.y * n + v.x)) (v.edge - 4) i)) f) r.layers1;
+            layers1 = ap (λ (f : ℕ → ℕ → ℕ). cond (in_layer v.edge) (stored f (v.y * n + v.x) (stored (f (v.y * n + v.x)) (v.edge - 4) i)) f) r.layers1;
             rows0 = r.rows0;
-            rows1 = ap (λ (f : ℕ → ℕ → ℕ). cond (ltb (putColumn v.edge) 3) (stored f v.x (stored (f v.x) (putColumn v.edge) i)) f) r.rows1;
+            rows1 = ap (λ (f : ℕ → ℕ → ℕ). cond (ltb (put_column v.edge) 3) (stored f v.x (stored (f v.x) (put_column v.edge) i)) f) r.rows1;
             current = ap (λ (f : ℕ → ℕ). stored f v.edge i) r.current;
             none0 = r.none0;
             none1 = cells-kept (eqb v.edge 5 || eqb v.edge 10) c.cells1 i r.none1;
           };
-      cellEnd = λ z i c d r.
+      cell_end = λ z i c d r.
           record { layers0 = r.layers0; layers1 = r.layers1; rows0 = r.rows0; rows1 = r.rows1; current = refl; none0 = r.none1; none1 = r.none0 };
-      rowEnd = λ z i c d r.
+      row_end = λ z i c d r.
           record { layers0 = r.layers0; layers1 = r.layers1; rows0 = r.rows1; rows1 = r.rows0; current = r.current; none0 = refl; none1 = r.none1 };
-      layerEnd = λ z i c d r.
+      layer_end = λ z i c d r.
           record { layers0 = r.layers1; layers1 = r.layers0; rows0 = refl; rows1 = r.rows1; current = r.current; none0 = refl; none1 = r.none1 };
     }
 
 pub cells-never-matter : (g : Inside) (n layers : ℕ)
-    → ((mesh (withoutCells n) fresh g n layers).made ≡ (mesh (crate n) fresh g n layers).made)
-    × ((mesh (withoutCells n) fresh g n layers).indices ≡ (mesh (crate n) fresh g n layers).indices)
+    → ((mesh (without_cells n) fresh g n layers).made ≡ (mesh (crate n) fresh g n layers).made)
+    × ((mesh (without_cells n) fresh g n layers).indices ≡ (mesh (crate n) fresh g n layers).indices)
 unfolding fresh
 cells-never-matter g n layers =
     let a =
-    meshes-agree (λ z i. ButCells) n (crate n) (withoutCells n) (cells-simulated n) g layers fresh fresh
+    meshes-agree (λ z i. ButCells) n (crate n) (without_cells n) (cells-simulated n) g layers fresh fresh
     (record { layers0 = refl; layers1 = refl; rows0 = refl; rows1 = refl; current = refl; none0 = refl; none1 = refl }) in
     (a.made, a.indices)
 
@@ -104,5 +104,5 @@ get-put n x y e i c h =
 pub absent-zero : (n : ℕ) (v : Visit) (i : ℕ) (c : Cache) → (crate n).look v c ≡ 0 → (crate n).look v ((crate n).note v i c) ≡ 0 → i ≡ 0
 unfolding crate
 absent-zero n v i c h k =
-    sym (get-put n v.x v.y v.edge i c (oneMore-zero (get n v.x v.y v.edge c) h))
-    ∙ oneMore-zero (get n v.x v.y v.edge (put n v.x v.y v.edge i c)) k
+    sym (get-put n v.x v.y v.edge i c (one_more-zero (get n v.x v.y v.edge c) h))
+    ∙ one_more-zero (get n v.x v.y v.edge (put n v.x v.y v.edge i c)) k

@@ -10,10 +10,10 @@ use native.Mathlib.Omega.{arith}
 use lib.ListN.{length, length-map}
 use borrow.Author.Tests.{not-true}
 use Rattle.walk.specs.Walk.{Visit, Inside}
-use Rattle.walk.specs.Edges.{Edge, edge_of, crosses, inBox, same, has, distinct, spread, crossingAt, crossings}
+use Rattle.walk.specs.Edges.{Edge, edge_of, crosses, in_box, same, has, distinct, spread, crossing_at, crossings}
 use Rattle.walk.specs.Numbering.{mesh, joined}
 use Rattle.walk.proofs.Bools.{bool_cases, and_left, and_right, or_split, not-of, iff-eq}
-use Rattle.walk.proofs.GridEdges.{edge_at, same_true, same_refl, inBox-says, inBox-of}
+use Rattle.walk.proofs.GridEdges.{edge_at, same_true, same_refl, in_box-says, in_box-of}
 use Rattle.walk.proofs.Ownership.{met-end, met_all}
 
 -- ---- what is made
@@ -23,16 +23,16 @@ module _ (g : Inside) (n layers : ℕ) where
   made-once = let i = met-end g n layers in rw i.edges i.once
 
   pub made-exactly : 2 ≤ n → 1 ≤ layers → (k : Edge)
-      → has k (map edge_of (mesh joined [] g n layers).made) ≡ (inBox n layers k && crosses g k)
+      → has k (map edge_of (mesh joined [] g n layers).made) ≡ (in_box n layers k && crosses g k)
   made-exactly p q k =
       let i = met-end g n layers in
       let m : List Edge = (mesh joined [] g n layers).memory in
       ap (has k) i.edges
-      ∙ iff-eq (has k m) (inBox n layers k && crosses g k)
-      (λ h. let b = i.boxed k h in rw (inBox-of n layers k b) (sym (met_all g n layers p q k b) ∙ sym (i.known k b) ∙ h))
+      ∙ iff-eq (has k m) (in_box n layers k && crosses g k)
+      (λ h. let b = i.boxed k h in rw (in_box-of n layers k b) (sym (met_all g n layers p q k b) ∙ sym (i.known k b) ∙ h))
       (λ h.
-      let b = inBox-says n layers k (and_left (inBox n layers k) (crosses g k) h) in
-      i.known k b ∙ met_all g n layers p q k b ∙ and_right (inBox n layers k) (crosses g k) h)
+      let b = in_box-says n layers k (and_left (in_box n layers k) (crosses g k) h) in
+      i.known k b ∙ met_all g n layers p q k b ∙ and_right (in_box n layers k) (crosses g k) h)
 
 -- ---- two lists without repetition that have the same edges are equally long
 
@@ -137,81 +137,81 @@ spread-distinct key (suc c) f d e =
     (λ k x y. let r = spread-says c f k x in let l = r.1 in let a = e r.0 k r.2 in let b = e c k y in omega arith)
 
 module _ (g : Inside) (n layers : ℕ) where
-  at-says : (m k : Edge) → has k (crossingAt g n layers m) ≡ true → (k ≡ m) × ((inBox n layers m && crosses g m) ≡ true)
-  unfolding crossingAt has
-  at-says m k h = go (inBox n layers m && crosses g m) h
+  at-says : (m k : Edge) → has k (crossing_at g n layers m) ≡ true → (k ≡ m) × ((in_box n layers m && crosses g m) ≡ true)
+  unfolding crossing_at has
+  at-says m k h = go (in_box n layers m && crosses g m) h
     where
       go : (b : Bool) → has k (cond b (m ∷ []) []) ≡ true → (k ≡ m) × (b ≡ true)
       go true h = (same_true k m (sym (or-false (same k m)) ∙ h), refl)
       go false h = absurd (false≢true h)
 
-  at-distinct : (m : Edge) → distinct (crossingAt g n layers m) ≡ true
-  unfolding crossingAt distinct has
-  at-distinct m = go (inBox n layers m && crosses g m)
+  at-distinct : (m : Edge) → distinct (crossing_at g n layers m) ≡ true
+  unfolding crossing_at distinct has
+  at-distinct m = go (in_box n layers m && crosses g m)
     where
       go : (b : Bool) → distinct (cond b (m ∷ []) []) ≡ true
       go true = refl
       go false = refl
 
-  abbrev alongX : ℕ → ℕ → ℕ → List Edge
-  alongX i z y = spread n (λ x. crossingAt g n layers (edge_at i x y z))
+  abbrev along_x : ℕ → ℕ → ℕ → List Edge
+  along_x i z y = spread n (λ x. crossing_at g n layers (edge_at i x y z))
 
-  abbrev alongY : ℕ → ℕ → List Edge
-  alongY i z = spread n (alongX i z)
+  abbrev along_y : ℕ → ℕ → List Edge
+  along_y i z = spread n (along_x i z)
 
-  abbrev alongZ : ℕ → List Edge
-  alongZ i = spread (layers + 1) (alongY i)
+  abbrev along_z : ℕ → List Edge
+  along_z i = spread (layers + 1) (along_y i)
 
   record Found (i z y : ℕ) (k : Edge) : Type 0 where
     axis : k.axis ≡ i
     on-z : k.z ≡ z
     on-y : k.y ≡ y
-    whole : (inBox n layers k && crosses g k) ≡ true
+    whole : (in_box n layers k && crosses g k) ≡ true
 
-  x-says : (i z y : ℕ) (k : Edge) → has k (alongX i z y) ≡ true → Found i z y k
+  x-says : (i z y : ℕ) (k : Edge) → has k (along_x i z y) ≡ true → Found i z y k
   x-says i z y k h =
-      let c = spread-says n (λ x. crossingAt g n layers (edge_at i x y z)) k h in
+      let c = spread-says n (λ x. crossing_at g n layers (edge_at i x y z)) k h in
       let e = at-says (edge_at i c.0 y z) k c.2 in
       let q : k ≡ edge_at i c.0 y z = e.0 in
       record {
         axis = ap (λ (o : Edge). o.axis) q;
         on-z = ap (λ (o : Edge). o.z) q;
         on-y = ap (λ (o : Edge). o.y) q;
-        whole = ap (λ (o : Edge). inBox n layers o && crosses g o) q ∙ e.1;
+        whole = ap (λ (o : Edge). in_box n layers o && crosses g o) q ∙ e.1;
       }
 
-  y-says : (i z : ℕ) (k : Edge) → has k (alongY i z) ≡ true → (y : ℕ) × Found i z y k
-  y-says i z k h = let c = spread-says n (alongX i z) k h in (c.0, x-says i z c.0 k c.2)
+  y-says : (i z : ℕ) (k : Edge) → has k (along_y i z) ≡ true → (y : ℕ) × Found i z y k
+  y-says i z k h = let c = spread-says n (along_x i z) k h in (c.0, x-says i z c.0 k c.2)
 
-  z-says : (i : ℕ) (k : Edge) → has k (alongZ i) ≡ true → (z : ℕ) × (y : ℕ) × Found i z y k
-  z-says i k h = let c = spread-says (layers + 1) (alongY i) k h in let d = y-says i c.0 k c.2 in (c.0, d.0, d.1)
+  z-says : (i : ℕ) (k : Edge) → has k (along_z i) ≡ true → (z : ℕ) × (y : ℕ) × Found i z y k
+  z-says i k h = let c = spread-says (layers + 1) (along_y i) k h in let d = y-says i c.0 k c.2 in (c.0, d.0, d.1)
 
   pub crossings-once : distinct (crossings g n layers) ≡ true
   unfolding crossings
   crossings-once =
-      spread-distinct (λ k. k.axis) 3 alongZ
-      (λ i. spread-distinct (λ k. k.z) (layers + 1) (alongY i)
-      (λ z. spread-distinct (λ k. k.y) n (alongX i z)
-      (λ y. spread-distinct (λ k. k.x) n (λ x. crossingAt g n layers (edge_at i x y z)) (λ x. at-distinct (edge_at i x y z))
+      spread-distinct (λ k. k.axis) 3 along_z
+      (λ i. spread-distinct (λ k. k.z) (layers + 1) (along_y i)
+      (λ z. spread-distinct (λ k. k.y) n (along_x i z)
+      (λ y. spread-distinct (λ k. k.x) n (λ x. crossing_at g n layers (edge_at i x y z)) (λ x. at-distinct (edge_at i x y z))
       (λ x k h. ap (λ (o : Edge). o.x) (at-says (edge_at i x y z) k h).0))
       (λ y k h. (x-says i z y k h).on-y))
       (λ z k h. (y-says i z k h).1.on-z))
       (λ i k h. (z-says i k h).2.axis)
 
-  pub crossings-exactly : (k : Edge) → has k (crossings g n layers) ≡ (inBox n layers k && crosses g k)
-  unfolding crossings crossingAt has
+  pub crossings-exactly : (k : Edge) → has k (crossings g n layers) ≡ (in_box n layers k && crosses g k)
+  unfolding crossings crossing_at has
   crossings-exactly k =
-      iff-eq (has k (crossings g n layers)) (inBox n layers k && crosses g k)
-      (λ h. let a = spread-says 3 alongZ k h in (z-says a.0 k a.2).2.whole)
+      iff-eq (has k (crossings g n layers)) (in_box n layers k && crosses g k)
+      (λ h. let a = spread-says 3 along_z k h in (z-says a.0 k a.2).2.whole)
       (λ h.
-      let b = inBox-says n layers k (and_left (inBox n layers k) (crosses g k) h) in
+      let b = in_box-says n layers k (and_left (in_box n layers k) (crosses g k) h) in
       let bx = b.x_lt in
       let by = b.y-lt in
       let bz = b.z-le in
-      spread-has 3 alongZ k k.axis b.axis-lt
-      (spread-has (layers + 1) (alongY k.axis) k k.z (omega arith)
-      (spread-has n (alongX k.axis k.z) k k.y (omega arith)
-      (spread-has n (λ x. crossingAt g n layers (edge_at k.axis x k.y k.z)) k k.x (omega arith)
+      spread-has 3 along_z k k.axis b.axis-lt
+      (spread-has (layers + 1) (along_y k.axis) k k.z (omega arith)
+      (spread-has n (along_x k.axis k.z) k k.y (omega arith)
+      (spread-has n (λ x. crossing_at g n layers (edge_at k.axis x k.y k.z)) k k.x (omega arith)
       (ap (λ (t : Bool). has k (cond t (k ∷ []) [])) h ∙ ap (λ (t : Bool). t || false) (same_refl k))))))
 
 -- V is the number of grid edges of the box that the surface crosses

@@ -9,23 +9,23 @@ use lib.ListN.{length}
 use lib.Dec.{eqb}
 use borrow.Author.Tests.{not-true, ne_eqb}
 use Rattle.walk.specs.Edges.{Edge, same, has, distinct}
-use Rattle.walk.specs.Numbering.{oneMore, number}
+use Rattle.walk.specs.Numbering.{one_more, number}
 use Rattle.walk.proofs.Bools.{bool_cases, and_left, and_right, or-none-left, or-none-right}
 use Rattle.walk.proofs.GridEdges.{same_refl, same-sym}
 
--- ---- `oneMore`
+-- ---- `one_more`
 
-oneMore-pos : (i : ℕ) → 0 < oneMore i → 0 < i
-oneMore-pos zero h = h
-oneMore-pos (suc i) h = omega arith
+one_more-pos : (i : ℕ) → 0 < one_more i → 0 < i
+one_more-pos zero h = h
+one_more-pos (suc i) h = omega arith
 
-pub oneMore-zero : (i : ℕ) → oneMore i ≡ 0 → i ≡ 0
-oneMore-zero zero h = refl
-oneMore-zero (suc i) h = absurd (let e : suc (suc i) ≡ 0 = h in omega arith)
+pub one_more-zero : (i : ℕ) → one_more i ≡ 0 → i ≡ 0
+one_more-zero zero h = refl
+one_more-zero (suc i) h = absurd (let e : suc (suc i) ≡ 0 = h in omega arith)
 
-pub oneMore-suc : (q i : ℕ) → oneMore q ≡ suc i → q ≡ i × 0 < q
-oneMore-suc zero i h = absurd (let e : 0 ≡ suc i = h in omega arith)
-oneMore-suc (suc q) i h = (let e : suc (suc q) ≡ suc i = h in omega arith, omega arith)
+pub one_more-suc : (q i : ℕ) → one_more q ≡ suc i → q ≡ i × 0 < q
+one_more-suc zero i h = absurd (let e : 0 ≡ suc i = h in omega arith)
+one_more-suc (suc q) i h = (let e : suc (suc q) ≡ suc i = h in omega arith, omega arith)
 
 -- ---- one more at the end
 
@@ -51,13 +51,13 @@ number_append k [] xs h = absurd (omega arith)
 number_append k (m ∷ ms) xs h =
     ⊎_elim
     (λ (t : same k m ≡ true). rw t)
-    (λ (f : same k m ≡ false). ap (λ (i : ℕ). cond (same k m) 1 (oneMore i)) (number_append k ms xs (oneMore-pos (number k ms) (rw f at h))))
+    (λ (f : same k m ≡ false). ap (λ (i : ℕ). cond (same k m) 1 (one_more i)) (number_append k ms xs (one_more-pos (number k ms) (rw f at h))))
     (bool_cases (same k m))
 
 pub number-snoc-other : (k m : Edge) (ms : List Edge) → same k m ≡ false → number k (ms ++ (m ∷ [])) ≡ number k ms
 unfolding number
 number-snoc-other k m [] h = rw h
-number-snoc-other k m (x ∷ ms) h = ap (λ (i : ℕ). cond (same k x) 1 (oneMore i)) (number-snoc-other k m ms h)
+number-snoc-other k m (x ∷ ms) h = ap (λ (i : ℕ). cond (same k x) 1 (one_more i)) (number-snoc-other k m ms h)
 
 pub number-snoc-same : (k : Edge) (ms : List Edge) → number k ms ≡ 0 → number k (ms ++ (k ∷ [])) ≡ suc (length ms)
 unfolding number
@@ -66,8 +66,8 @@ number-snoc-same k (x ∷ ms) e =
     ⊎_elim
     (λ (t : same k x ≡ true). absurd (let q : 1 ≡ 0 = rw t at e in omega arith))
     (λ (f : same k x ≡ false).
-    ap (λ (b : Bool). cond b 1 (oneMore (number k (ms ++ (k ∷ []))))) f
-    ∙ ap oneMore (number-snoc-same k ms (oneMore-zero (number k ms) (rw f at e))))
+    ap (λ (b : Bool). cond b 1 (one_more (number k (ms ++ (k ∷ []))))) f
+    ∙ ap one_more (number-snoc-same k ms (one_more-zero (number k ms) (rw f at e))))
     (bool_cases (same k x))
 
 -- ---- met or not
@@ -78,7 +78,7 @@ number-zero k [] h = refl
 number-zero k (m ∷ ms) h =
     ⊎_elim
     (λ (t : same k m ≡ true). absurd (let q : 1 ≡ 0 = rw t at h in omega arith))
-    (λ (f : same k m ≡ false). rw f (number-zero k ms (oneMore-zero (number k ms) (rw f at h))))
+    (λ (f : same k m ≡ false). rw f (number-zero k ms (one_more-zero (number k ms) (rw f at h))))
     (bool_cases (same k m))
 
 pub number-pos : (k : Edge) (ms : List Edge) → 0 < number k ms → has k ms ≡ true
@@ -87,7 +87,7 @@ number-pos k [] h = absurd (omega arith)
 number-pos k (m ∷ ms) h =
     ⊎_elim
     (λ (t : same k m ≡ true). rw t)
-    (λ (f : same k m ≡ false). rw f (number-pos k ms (oneMore-pos (number k ms) (rw f at h))))
+    (λ (f : same k m ≡ false). rw f (number-pos k ms (one_more-pos (number k ms) (rw f at h))))
     (bool_cases (same k m))
 
 -- absent, by the number, is not being in the list
@@ -103,7 +103,7 @@ unfolding number
 number-le k [] = omega arith
 number-le k (m ∷ ms) = at (same k m) (number k ms) (number-le k ms)
   where
-    at : (b : Bool) (q : ℕ) → q ≤ length ms → cond b 1 (oneMore q) ≤ suc (length ms)
+    at : (b : Bool) (q : ℕ) → q ≤ length ms → cond b 1 (one_more q) ≤ suc (length ms)
     at true q h = omega arith
     at false zero h = omega arith
     at false (suc q) h = omega arith

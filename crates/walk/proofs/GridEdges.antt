@@ -7,11 +7,11 @@ use native.Mathlib.Nat.{add_assoc, add_left_cancel}
 use native.Mathlib.Omega.{arith}
 use lib.Dec.{eqb, ltb, leb}
 use borrow.Author.Tests.{eqb-true, eq-eqb, ltb-true, leb-true, lt-ltb, le-leb}
-use Rattle.marching_cubes_tables.specs.Tables.{edgeEnd}
-use Rattle.walk.specs.Walk.{Visit, Inside, cornerInside}
-use Rattle.walk.specs.Edges.{Edge, axisOf, lowOffset, edge_of, reach, crosses, inBox, same}
+use Rattle.marching_cubes_tables.specs.Tables.{edge_end}
+use Rattle.walk.specs.Walk.{Visit, Inside, corner_inside}
+use Rattle.walk.specs.Edges.{Edge, axis_of, low_offset, edge_of, reach, crosses, in_box, same}
 use Rattle.walk.proofs.Bools.{and_left, and_right, iff-eq}
-use Rattle.walk.proofs.TwelveEdges.{Runs, cellEdge}
+use Rattle.walk.proofs.TwelveEdges.{Runs, cell_edge}
 
 -- ---- equality
 
@@ -54,9 +54,9 @@ pub record InBox (n layers : ℕ) (k : Edge) : Type 0 where
   pub y-lt : k.y + reach k.axis 1 < n
   pub z-le : k.z + reach k.axis 2 ≤ layers
 
-pub inBox-says : (n layers : ℕ) (k : Edge) → inBox n layers k ≡ true → InBox n layers k
-unfolding inBox
-inBox-says n layers k h =
+pub in_box-says : (n layers : ℕ) (k : Edge) → in_box n layers k ≡ true → InBox n layers k
+unfolding in_box
+in_box-says n layers k h =
     let a : Bool = ltb k.axis 3 in
     let b : Bool = ltb (k.x + reach k.axis 0) n in
     let c : Bool = ltb (k.y + reach k.axis 1) n in
@@ -70,9 +70,9 @@ inBox-says n layers k h =
       z-le = leb-true _ _ (and_right c d u);
     }
 
-pub inBox-of : (n layers : ℕ) (k : Edge) → InBox n layers k → inBox n layers k ≡ true
-unfolding inBox
-inBox-of n layers k b =
+pub in_box-of : (n layers : ℕ) (k : Edge) → InBox n layers k → in_box n layers k ≡ true
+unfolding in_box
+in_box-of n layers k b =
     rw (lt-ltb k.axis 3 b.axis-lt, lt-ltb (k.x + reach k.axis 0) n b.x_lt, lt-ltb (k.y + reach k.axis 1) n b.y-lt, le-leb (k.z + reach k.axis 2) layers b.z-le)
 
 -- ---- the edges of a cell
@@ -81,17 +81,17 @@ abbrev pub visit_at : ℕ → ℕ → ℕ → ℕ → Visit
 visit_at x y z e = record { x = x; y = y; z = z; edge = e }
 
 module _ (x y z e : ℕ) (h : e < 12) where
-  pub edgeOf-inBox : (n layers : ℕ) → x < n - 1 → y < n - 1 → z < layers → InBox n layers (edge_of (visit_at x y z e))
+  pub edge_of-in_box : (n layers : ℕ) → x < n - 1 → y < n - 1 → z < layers → InBox n layers (edge_of (visit_at x y z e))
   unfolding edge_of
-  edgeOf-inBox n layers hx hy hz =
-      let c = cellEdge e h in
+  edge_of-in_box n layers hx hy hz =
+      let c = cell_edge e h in
       let a = c.high_le 0 (omega arith) in
       let b = c.high_le 1 (omega arith) in
       let d = c.high_le 2 (omega arith) in
       record { axis-lt = c.axis-lt; x_lt = omega arith; y-lt = omega arith; z-le = omega arith }
 
   ends_at : (g : Inside) (s t : ℕ) → Runs e s t
-      → crosses g (edge_of (visit_at x y z e)) ≡ not (beq (cornerInside g x y z (edgeEnd e s)) (cornerInside g x y z (edgeEnd e t)))
+      → crosses g (edge_of (visit_at x y z e)) ≡ not (beq (corner_inside g x y z (edge_end e s)) (corner_inside g x y z (edge_end e t)))
   unfolding edge_of crosses
   ends_at g s t r =
       rw (
@@ -101,16 +101,16 @@ module _ (x y z e : ℕ) (h : e < 12) where
         r.high 0 (omega arith),
         r.high 1 (omega arith),
         r.high 2 (omega arith),
-        add_assoc x (lowOffset e 0) (reach (axisOf e) 0),
-        add_assoc y (lowOffset e 1) (reach (axisOf e) 1),
-        add_assoc z (lowOffset e 2) (reach (axisOf e) 2),
+        add_assoc x (low_offset e 0) (reach (axis_of e) 0),
+        add_assoc y (low_offset e 1) (reach (axis_of e) 1),
+        add_assoc z (low_offset e 2) (reach (axis_of e) 2),
       )
 
   -- its ends are the two corners that the table of edges gives it, in one order or the other
-  pub edgeOf-crosses : (g : Inside)
-      → crosses g (edge_of (visit_at x y z e)) ≡ not (beq (cornerInside g x y z (edgeEnd e 0)) (cornerInside g x y z (edgeEnd e 1)))
-  edgeOf-crosses g =
-      ⊎_elim (λ r. ends_at g 0 1 r) (λ r. ends_at g 1 0 r ∙ ap not (beq-comm (cornerInside g x y z (edgeEnd e 1)) (cornerInside g x y z (edgeEnd e 0)))) (cellEdge e h).ends
+  pub edge_of-crosses : (g : Inside)
+      → crosses g (edge_of (visit_at x y z e)) ≡ not (beq (corner_inside g x y z (edge_end e 0)) (corner_inside g x y z (edge_end e 1)))
+  edge_of-crosses g =
+      ⊎_elim (λ r. ends_at g 0 1 r) (λ r. ends_at g 1 0 r ∙ ap not (beq-comm (corner_inside g x y z (edge_end e 1)) (corner_inside g x y z (edge_end e 0)))) (cell_edge e h).ends
     where
       beq-comm : (a b : Bool) → beq a b ≡ beq b a
       beq-comm true true = refl
@@ -119,17 +119,17 @@ module _ (x y z e : ℕ) (h : e < 12) where
       beq-comm false false = refl
 
 -- the grid edge tells which edge of the cell it is
-pub edgeOf-injective : (x y z d e : ℕ) → d < 12 → e < 12 → edge_of (visit_at x y z d) ≡ edge_of (visit_at x y z e) → d ≡ e
+pub edge_of-injective : (x y z d e : ℕ) → d < 12 → e < 12 → edge_of (visit_at x y z d) ≡ edge_of (visit_at x y z e) → d ≡ e
 unfolding edge_of
-edgeOf-injective x y z d e hd he q =
-    let a : axisOf d ≡ axisOf e = ap (λ (k : Edge). k.axis) q in
-    let i : lowOffset d 0 ≡ lowOffset e 0 = add_left_cancel x (ap (λ (k : Edge). k.x) q) in
-    let j : lowOffset d 1 ≡ lowOffset e 1 = add_left_cancel y (ap (λ (k : Edge). k.y) q) in
-    let k : lowOffset d 2 ≡ lowOffset e 2 = add_left_cancel z (ap (λ (k : Edge). k.z) q) in
-    sym (cellEdge d hd).numbered ∙ rw (a, i, j, k) (cellEdge e he).numbered
+edge_of-injective x y z d e hd he q =
+    let a : axis_of d ≡ axis_of e = ap (λ (k : Edge). k.axis) q in
+    let i : low_offset d 0 ≡ low_offset e 0 = add_left_cancel x (ap (λ (k : Edge). k.x) q) in
+    let j : low_offset d 1 ≡ low_offset e 1 = add_left_cancel y (ap (λ (k : Edge). k.y) q) in
+    let k : low_offset d 2 ≡ low_offset e 2 = add_left_cancel z (ap (λ (k : Edge). k.z) q) in
+    sym (cell_edge d hd).numbered ∙ rw (a, i, j, k) (cell_edge e he).numbered
 
-pub edgeOf-same : (x y z d e : ℕ) → d < 12 → e < 12 → same (edge_of (visit_at x y z d)) (edge_of (visit_at x y z e)) ≡ eqb d e
-edgeOf-same x y z d e hd he =
+pub edge_of-same : (x y z d e : ℕ) → d < 12 → e < 12 → same (edge_of (visit_at x y z d)) (edge_of (visit_at x y z e)) ≡ eqb d e
+edge_of-same x y z d e hd he =
     iff-eq (same (edge_of (visit_at x y z d)) (edge_of (visit_at x y z e))) (eqb d e)
-    (λ t. eq-eqb d e (edgeOf-injective x y z d e hd he (same_true (edge_of (visit_at x y z d)) (edge_of (visit_at x y z e)) t)))
+    (λ t. eq-eqb d e (edge_of-injective x y z d e hd he (same_true (edge_of (visit_at x y z d)) (edge_of (visit_at x y z e)) t)))
     (λ t. same_of (edge_of (visit_at x y z d)) (edge_of (visit_at x y z e)) (ap (λ (i : ℕ). edge_of (visit_at x y z i)) (eqb-true d e t)))

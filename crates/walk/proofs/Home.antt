@@ -8,34 +8,34 @@ use native.Mathlib.Decide.{dec_lt}
 use native.Mathlib.Omega.{arith}
 use lib.Dec.{T, eqb}
 use borrow.Author.Tests.{eqb-true, eq-eqb}
-use Rattle.marching_cubes_tables.specs.Tables.{corners, edgeConnection}
+use Rattle.marching_cubes_tables.specs.Tables.{corners, edge_connection}
 use Rattle.marching_cubes_tables.proofs.Tests.{beq-eq}
-use Rattle.walk.specs.Edges.{Edge, axisOf, lowOffset, edge_of, reach}
+use Rattle.walk.specs.Edges.{Edge, axis_of, low_offset, edge_of, reach}
 use Rattle.walk.specs.Ownership.{owned}
 use Rattle.walk.proofs.Bools.{and_left, and_right, or_split, iff-eq}
-use Rattle.walk.proofs.Below.{all_below, allBelow-at}
-use Rattle.walk.proofs.TwelveEdges.{edgeNumber, highOffset, cellEdge, edge-placed}
+use Rattle.walk.proofs.Below.{all_below, all_below-at}
+use Rattle.walk.proofs.TwelveEdges.{edge_number, high_offset, cell_edge, edge-placed}
 use Rattle.walk.proofs.GridEdges.{edge-ext, visit_at, InBox}
 use Rattle.walk.proofs.Rank.{rank, rank_mono, rank-injective}
 
 -- the cell before the end of the edge, along each axis
-abbrev pub homeX : Edge → ℕ
-homeX k = k.x + reach k.axis 0 - 1
+abbrev pub home_x : Edge → ℕ
+home_x k = k.x + reach k.axis 0 - 1
 
-abbrev pub homeY : Edge → ℕ
-homeY k = k.y + reach k.axis 1 - 1
+abbrev pub home_y : Edge → ℕ
+home_y k = k.y + reach k.axis 1 - 1
 
-abbrev pub homeZ : Edge → ℕ
-homeZ k = k.z + reach k.axis 2 - 1
+abbrev pub home_z : Edge → ℕ
+home_z k = k.z + reach k.axis 2 - 1
 
 unfoldable pub home : ℕ → Edge → ℕ
-home m k = rank m (homeX k) (homeY k) (homeZ k)
+home m k = rank m (home_x k) (home_y k) (home_z k)
 
 low_of : (x y z e : ℕ) → e < 12
-    → (homeX (edge_of (visit_at x y z e)) ≤ x) × (homeY (edge_of (visit_at x y z e)) ≤ y) × (homeZ (edge_of (visit_at x y z e)) ≤ z)
+    → (home_x (edge_of (visit_at x y z e)) ≤ x) × (home_y (edge_of (visit_at x y z e)) ≤ y) × (home_z (edge_of (visit_at x y z e)) ≤ z)
 unfolding edge_of
 low_of x y z e h =
-    let c = cellEdge e h in
+    let c = cell_edge e h in
     let a = c.high_le 0 (omega arith) in
     let b = c.high_le 1 (omega arith) in
     let d = c.high_le 2 (omega arith) in
@@ -52,14 +52,14 @@ home-le m x y z e h = let l = low_of x y z e h in rank_mono m x y z _ _ _ l.0 l.
 abbrev pub owns : ℕ → ℕ → ℕ → ℕ → Bool
 owns x y z e = owned (eqb x 0) (eqb y 0) (eqb z 0) e
 
-abbrev byEnds : Bool → Bool → Bool → ℕ → Bool
-byEnds x0 y0 z0 e = (x0 || eqb (highOffset e 0) 1) && ((y0 || eqb (highOffset e 1) 1) && (z0 || eqb (highOffset e 2) 1))
+abbrev by_ends : Bool → Bool → Bool → ℕ → Bool
+by_ends x0 y0 z0 e = (x0 || eqb (high_offset e 0) 1) && ((y0 || eqb (high_offset e 1) 1) && (z0 || eqb (high_offset e 2) 1))
 
 abbrev agree : Bool → Bool → Bool → Bool
-agree x0 y0 z0 = all_below 12 (λ e. beq (byEnds x0 y0 z0 e) (owned x0 y0 z0 e))
+agree x0 y0 z0 = all_below 12 (λ e. beq (by_ends x0 y0 z0 e) (owned x0 y0 z0 e))
 
 agrees : (x0 y0 z0 : Bool) → T (agree x0 y0 z0)
-unfolding axisOf lowOffset corners edgeConnection owned
+unfolding axis_of low_offset corners edge_connection owned
 agrees true true true = tt
 agrees true true false = tt
 agrees true false true = tt
@@ -86,46 +86,46 @@ stays x low high h =
     (or_split (eqb x 0) (eqb (low + high) 1) t))
 
 at_home : (x y z e : ℕ) → e < 12
-    → (eqb (homeX (edge_of (visit_at x y z e))) x && (eqb (homeY (edge_of (visit_at x y z e))) y && eqb (homeZ (edge_of (visit_at x y z e))) z)) ≡ owns x y z e
+    → (eqb (home_x (edge_of (visit_at x y z e))) x && (eqb (home_y (edge_of (visit_at x y z e))) y && eqb (home_z (edge_of (visit_at x y z e))) z)) ≡ owns x y z e
 unfolding edge_of
 at_home x y z e h =
-    let c = cellEdge e h in
+    let c = cell_edge e h in
     rw (
-      stays x (lowOffset e 0) (reach (axisOf e) 0) (c.high_le 0 (omega arith)),
-      stays y (lowOffset e 1) (reach (axisOf e) 1) (c.high_le 1 (omega arith)),
-      stays z (lowOffset e 2) (reach (axisOf e) 2) (c.high_le 2 (omega arith)),
+      stays x (low_offset e 0) (reach (axis_of e) 0) (c.high_le 0 (omega arith)),
+      stays y (low_offset e 1) (reach (axis_of e) 1) (c.high_le 1 (omega arith)),
+      stays z (low_offset e 2) (reach (axis_of e) 2) (c.high_le 2 (omega arith)),
     )
-    (beq-eq _ _ (allBelow-at 12 (λ i. beq (byEnds (eqb x 0) (eqb y 0) (eqb z 0) i) (owned (eqb x 0) (eqb y 0) (eqb z 0) i)) (agrees (eqb x 0) (eqb y 0) (eqb z 0)) e h))
+    (beq-eq _ _ (all_below-at 12 (λ i. beq (by_ends (eqb x 0) (eqb y 0) (eqb z 0) i) (owned (eqb x 0) (eqb y 0) (eqb z 0) i)) (agrees (eqb x 0) (eqb y 0) (eqb z 0)) e h))
 
 pub home-owned : (m x y z e : ℕ) → x < m → y < m → e < 12 → eqb (home m (edge_of (visit_at x y z e))) (rank m x y z) ≡ owns x y z e
 unfolding home
 home-owned m x y z e p q h =
     let k = edge_of (visit_at x y z e) in
-    let a = eqb (homeX k) x in
-    let b = eqb (homeY k) y in
-    let c = eqb (homeZ k) z in
-    iff-eq (eqb (rank m (homeX k) (homeY k) (homeZ k)) (rank m x y z)) (a && (b && c))
+    let a = eqb (home_x k) x in
+    let b = eqb (home_y k) y in
+    let c = eqb (home_z k) z in
+    iff-eq (eqb (rank m (home_x k) (home_y k) (home_z k)) (rank m x y z)) (a && (b && c))
     (λ t.
     let l = low_of x y z e h in
-    let r = rank-injective m x y z (homeX k) (homeY k) (homeZ k) p q (omega (arith, l.0)) (omega (arith, l.1)) (eqb-true _ _ t) in
-    rw (eq-eqb (homeX k) x r.0, eq-eqb (homeY k) y r.1, eq-eqb (homeZ k) z r.2))
+    let r = rank-injective m x y z (home_x k) (home_y k) (home_z k) p q (omega (arith, l.0)) (omega (arith, l.1)) (eqb-true _ _ t) in
+    rw (eq-eqb (home_x k) x r.0, eq-eqb (home_y k) y r.1, eq-eqb (home_z k) z r.2))
     (λ t.
     let u : (b && c) ≡ true = and_right a (b && c) t in
-    eq-eqb (rank m (homeX k) (homeY k) (homeZ k)) (rank m x y z)
-    (ap (λ (i : ℕ). rank m i (homeY k) (homeZ k)) (eqb-true (homeX k) x (and_left a (b && c) t))
-    ∙ ap (λ (i : ℕ). rank m x i (homeZ k)) (eqb-true (homeY k) y (and_left b c u))
-    ∙ ap (λ (i : ℕ). rank m x y i) (eqb-true (homeZ k) z (and_right b c u))))
+    eq-eqb (rank m (home_x k) (home_y k) (home_z k)) (rank m x y z)
+    (ap (λ (i : ℕ). rank m i (home_y k) (home_z k)) (eqb-true (home_x k) x (and_left a (b && c) t))
+    ∙ ap (λ (i : ℕ). rank m x i (home_z k)) (eqb-true (home_y k) y (and_left b c u))
+    ∙ ap (λ (i : ℕ). rank m x y i) (eqb-true (home_z k) z (and_right b c u))))
     ∙ at_home x y z e h
 
 -- ---- an edge of the box is an edge of its home
 
 pub record AtHome (n layers : ℕ) (k : Edge) : Type 0 where
-  pub x_lt : homeX k < n - 1
-  pub y-lt : homeY k < n - 1
-  pub z-lt : homeZ k < layers
+  pub x_lt : home_x k < n - 1
+  pub y-lt : home_y k < n - 1
+  pub z-lt : home_z k < layers
   pub edge : ℕ
   pub edge-lt : edge < 12
-  pub is : edge_of (visit_at (homeX k) (homeY k) (homeZ k) edge) ≡ k
+  pub is : edge_of (visit_at (home_x k) (home_y k) (home_z k) edge) ≡ k
 
 reach-le : (a i : ℕ) → reach a i ≤ 1
 reach-le a i = at (eqb a i)
@@ -144,7 +144,7 @@ box-home n layers k hn hl b =
     let bx = b.x_lt in
     let by = b.y-lt in
     let bz = b.z-le in
-    let p = edge-placed a (k.x - homeX k) (k.y - homeY k) (k.z - homeZ k) b.axis-lt (omega arith) (omega arith) (omega arith) in
+    let p = edge-placed a (k.x - home_x k) (k.y - home_y k) (k.z - home_z k) b.axis-lt (omega arith) (omega arith) (omega arith) in
     let px = p.low_x in
     let py = p.low-y in
     let pz = p.low-z in
@@ -152,7 +152,7 @@ box-home n layers k hn hl b =
       x_lt = omega arith;
       y-lt = omega arith;
       z-lt = omega arith;
-      edge = edgeNumber a (k.x - homeX k) (k.y - homeY k) (k.z - homeZ k);
+      edge = edge_number a (k.x - home_x k) (k.y - home_y k) (k.z - home_z k);
       edge-lt = p.lt;
       is = edge-ext _ k p.axis (omega arith) (omega arith) (omega arith);
     }

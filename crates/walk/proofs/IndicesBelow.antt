@@ -8,13 +8,13 @@ use native.Mathlib.Nat.{not-suc-le-zero}
 use native.Mathlib.Omega.{arith}
 use lib.Dec.{eqb, ltb, leb}
 use lib.ListN.{length}
-use Rattle.walk.specs.Walk.{Visit, Inside, visitOf, cellEdges}
+use Rattle.walk.specs.Walk.{Visit, Inside, visit_of, cell_edges}
 use Rattle.walk.specs.Edges.{edge_of}
-use Rattle.walk.specs.Cache.{Cache, fresh, stored, putColumn, getColumn, inLayer, put, found, get, advanceCell, advanceRow, advanceLayer}
+use Rattle.walk.specs.Cache.{Cache, fresh, stored, put_column, get_column, in_layer, put, found, get, advance_cell, advance_row, advance_layer}
 use Rattle.walk.specs.Numbering.{Numbering, Mesh, empty, choose, hooks, mesh, joined, number, crate}
 use Rattle.walk.proofs.Each.{Each, length-snoc, each_snoc}
 use Rattle.walk.proofs.WalkInduction.{Steps, Alone, before, walk-holds, visit-holds}
-use Rattle.walk.proofs.FirstUse.{number-le, oneMore-suc}
+use Rattle.walk.proofs.FirstUse.{number-le, one_more-suc}
 
 -- ---- any numbering that remembers given numbers
 
@@ -22,9 +22,9 @@ use Rattle.walk.proofs.FirstUse.{number-le, oneMore-suc}
 pub record Sound {C : Type 0} (Holds : ℕ → C → Type 0) (m : Numbering C) : Type 0 where
   pub look : (v : Visit) (made : ℕ) (c : C) (i : ℕ) → Holds made c → m.look v c ≡ suc i → i < made
   pub note : (v : Visit) (made : ℕ) (c : C) → Holds made c → Holds (made + 1) (m.note v made c)
-  pub cellEnd : (made : ℕ) (c : C) → Holds made c → Holds made (m.cellEnd c)
-  pub rowEnd : (made : ℕ) (c : C) → Holds made c → Holds made (m.rowEnd c)
-  pub layerEnd : (made : ℕ) (c : C) → Holds made c → Holds made (m.layerEnd c)
+  pub cell_end : (made : ℕ) (c : C) → Holds made c → Holds made (m.cell_end c)
+  pub row_end : (made : ℕ) (c : C) → Holds made c → Holds made (m.row_end c)
+  pub layer_end : (made : ℕ) (c : C) → Holds made c → Holds made (m.layer_end c)
 
 pub record Bounded {C : Type 0} (Holds : ℕ → C → Type 0) (s : Mesh C) : Type 0 where
   pub memory : Holds (length s.made) s.memory
@@ -49,10 +49,10 @@ module _ {C : Type 0} (Holds : ℕ → C → Type 0) (m : Numbering C) (q : Soun
   unfolding hooks
   bounded-steps g n layers =
       record {
-        visit = λ z y x j s t lz ly lx lj p. choose-bounded (m.look (visitOf g x y z j) s.memory) (visitOf g x y z j) s refl p;
-        cellEnd = λ z y x s t lz ly lx p. record { memory = q.cellEnd _ _ p.memory; indices = p.indices };
-        rowEnd = λ z y s t lz ly p. record { memory = q.rowEnd _ _ p.memory; indices = p.indices };
-        layerEnd = λ z s t lz p. record { memory = q.layerEnd _ _ p.memory; indices = p.indices };
+        visit = λ z y x j s t lz ly lx lj p. choose-bounded (m.look (visit_of g x y z j) s.memory) (visit_of g x y z j) s refl p;
+        cell_end = λ z y x s t lz ly lx p. record { memory = q.cell_end _ _ p.memory; indices = p.indices };
+        row_end = λ z y s t lz ly p. record { memory = q.row_end _ _ p.memory; indices = p.indices };
+        layer_end = λ z s t lz p. record { memory = q.layer_end _ _ p.memory; indices = p.indices };
       }
 
   module _ (c : C) (start : Holds 0 c) (g : Inside) (n layers : ℕ) where
@@ -64,7 +64,7 @@ module _ {C : Type 0} (Holds : ℕ → C → Type 0) (m : Numbering C) (q : Soun
     bounded-end = walk-holds g n layers (hooks m) (λ z y x j. Bounded Holds) (bounded-steps g n layers) (empty c) started
 
     -- and before each visit, which for suc j is after visit j
-    pub bounded-before : (z y x j : ℕ) → z < layers → y < n - 1 → x < n - 1 → j ≤ length (cellEdges g x y z)
+    pub bounded-before : (z y x j : ℕ) → z < layers → y < n - 1 → x < n - 1 → j ≤ length (cell_edges g x y z)
         → Bounded Holds (before (hooks m) g n z y x j (empty c))
     bounded-before z y x j lz ly lx lj =
         visit-holds g n layers (hooks m) (λ z y x j. Bounded Holds) (bounded-steps g n layers) z y x j lz ly lx lj (empty c) started
@@ -77,9 +77,9 @@ joined-sound =
     record {
       look = λ v made ms i p h. let a = number-le (edge_of v) ms in let b : number (edge_of v) ms ≡ suc i = h in omega arith;
       note = λ v made ms p. length-snoc ms (edge_of v) ∙ ap (λ (k : ℕ). k + 1) p;
-      cellEnd = λ made ms p. p;
-      rowEnd = λ made ms p. p;
-      layerEnd = λ made ms p. p;
+      cell_end = λ made ms p. p;
+      row_end = λ made ms p. p;
+      layer_end = λ made ms p. p;
     }
 
 -- ---- crate
@@ -124,7 +124,7 @@ unfolding get found
 get-le n x y e made c h =
     let f : found n x y e c ≤ made - 1 =
     cond-le (leb e 3) _ _ _ (h.layers0 (y * n + x) e)
-    (cond-le (ltb (getColumn e) 3) _ _ _ (h.rows0 x (getColumn e)) (cond-le (eqb e 7 || eqb e 11) _ _ _ (h.cells0 1) (omega arith))) in
+    (cond-le (ltb (get_column e) 3) _ _ _ (h.rows0 x (get_column e)) (cond-le (eqb e 7 || eqb e 11) _ _ _ (h.cells0 1) (omega arith))) in
     cond-le (ltb 0 (found n x y e c)) _ _ _ f (h.current e)
 
 put-held : (n x y e made : ℕ) (c : Cache) → Held made c → Held (made + 1) (put n x y e made c)
@@ -134,11 +134,11 @@ put-held n x y e made c h =
       layers0 = λ p d. let a = h.layers0 p d in omega arith;
       layers1 =
           (let kept : (p d : ℕ) → c.layers1 p d ≤ made + 1 - 1 = λ p d. (let a = h.layers1 p d in omega arith) in
-          if-le (inLayer e) _ _ _ (plane-le c.layers1 (y * n + x) (e - 4) made _ kept (omega arith)) kept);
+          if-le (in_layer e) _ _ _ (plane-le c.layers1 (y * n + x) (e - 4) made _ kept (omega arith)) kept);
       rows0 = λ p d. let a = h.rows0 p d in omega arith;
       rows1 =
           (let kept : (x d : ℕ) → c.rows1 x d ≤ made + 1 - 1 = λ x d. (let a = h.rows1 x d in omega arith) in
-          if-le (ltb (putColumn e) 3) _ _ _ (plane-le c.rows1 x (putColumn e) made _ kept (omega arith)) kept);
+          if-le (ltb (put_column e) 3) _ _ _ (plane-le c.rows1 x (put_column e) made _ kept (omega arith)) kept);
       cells0 = λ i. let a = h.cells0 i in omega arith;
       cells1 =
           (let kept : (i : ℕ) → c.cells1 i ≤ made + 1 - 1 = λ i. (let a = h.cells1 i in omega arith) in
@@ -147,21 +147,21 @@ put-held n x y e made c h =
     }
 
 pub crate-sound : (n : ℕ) → Sound Held (crate n)
-unfolding crate advanceCell advanceRow advanceLayer
+unfolding crate advance_cell advance_row advance_layer
 crate-sound n =
     record {
       look = λ v made c i h e.
           let a = get-le n v.x v.y v.edge made c h in
-          let b = oneMore-suc (get n v.x v.y v.edge c) i e in
+          let b = one_more-suc (get n v.x v.y v.edge c) i e in
           let d = b.0 in
           let f = b.1 in
           omega arith;
       note = λ v made c h. put-held n v.x v.y v.edge made c h;
-      cellEnd = λ made c h.
+      cell_end = λ made c h.
           record { layers0 = h.layers0; layers1 = h.layers1; rows0 = h.rows0; rows1 = h.rows1; cells0 = h.cells1; cells1 = h.cells0; current = λ e. omega arith };
-      rowEnd = λ made c h.
+      row_end = λ made c h.
           record { layers0 = h.layers0; layers1 = h.layers1; rows0 = h.rows1; rows1 = h.rows0; cells0 = λ i. omega arith; cells1 = h.cells1; current = h.current };
-      layerEnd = λ made c h.
+      layer_end = λ made c h.
           record { layers0 = h.layers1; layers1 = h.layers0; rows0 = λ x d. omega arith; rows1 = h.rows1; cells0 = λ i. omega arith; cells1 = h.cells1; current = h.current };
     }
 

@@ -11,16 +11,16 @@ use lib.ListN.{length, get_or}
 use borrow.Author.Tests.{eqb-true, ne_eqb, eq-eqb}
 use Rattle.marching_cubes_tables.specs.Rule.{member}
 use Rattle.walk.specs.Walk.{bit}
-use Rattle.walk.specs.Ownership.{newEdges}
+use Rattle.walk.specs.Ownership.{new_edges}
 use Rattle.walk.proofs.Bools.{bool_cases}
 
-pub newEdges-length-le : (new : ℕ → Bool) (r : List ℕ) → length (newEdges new r) ≤ length r
-unfolding newEdges
-newEdges-length-le new [] = omega arith
-newEdges-length-le new (e ∷ r) =
+pub new_edges-length-le : (new : ℕ → Bool) (r : List ℕ) → length (new_edges new r) ≤ length r
+unfolding new_edges
+new_edges-length-le new [] = omega arith
+new_edges-length-le new (e ∷ r) =
     ⊎_elim
-    (λ (t : new e ≡ true). let taken = newEdges-length-le (λ d. new d && not (eqb d e)) r in rw t (omega arith))
-    (λ (t : new e ≡ false). let passed = newEdges-length-le new r in rw t (omega arith))
+    (λ (t : new e ≡ true). let taken = new_edges-length-le (λ d. new d && not (eqb d e)) r in rw t (omega arith))
+    (λ (t : new e ≡ false). let passed = new_edges-length-le new r in rw t (omega arith))
     (bool_cases (new e))
 
 -- ---- how many of f 0, f 1, .. f (k - 1) are true
@@ -47,21 +47,21 @@ counted-one (suc k) (suc e) f h l t u s =
 
 -- ---- the new edges by the twelve
 
-pub newEdges-counted : (es : List ℕ) (new : ℕ → Bool) → ((j : ℕ) → j < length es → get_or es j 0 < 12) → length (newEdges new es) ≡ counted 12 (λ e. member e es && new e)
-unfolding newEdges counted
-newEdges-counted [] new each = refl
-newEdges-counted (e ∷ es) new each =
+pub new_edges-counted : (es : List ℕ) (new : ℕ → Bool) → ((j : ℕ) → j < length es → get_or es j 0 < 12) → length (new_edges new es) ≡ counted 12 (λ e. member e es && new e)
+unfolding new_edges counted
+new_edges-counted [] new each = refl
+new_edges-counted (e ∷ es) new each =
     ⊎_elim
     (λ (t : new e ≡ true).
     let later : ℕ → Bool = λ d. new d && not (eqb d e) in
     let same : eqb e e ≡ true = eq-eqb e e refl in
     rw t
-    (ap suc (newEdges-counted es later (λ j l. each (suc j) (omega arith)))
+    (ap suc (new_edges-counted es later (λ j l. each (suc j) (omega arith)))
     ∙ sym (counted-one 12 e (λ d. (eqb d e || member d es) && new d) (λ d. member d es && (new d && not (eqb d e))) (each 0 (omega arith)) (rw (same, t)) (rw (same, t, and-false (member e es)))
     (λ i n. let other : eqb i e ≡ false = ne_eqb i e n in rw other (at_other (member i es) (new i))))))
     (λ (t : new e ≡ false).
     rw t
-    (newEdges-counted es new (λ j l. each (suc j) (omega arith))
+    (new_edges-counted es new (λ j l. each (suc j) (omega arith))
     ∙ counted-ext 12 (λ d. member d es && new d) (λ d. (eqb d e || member d es) && new d) (λ i l. held (eqb i e) (member i es) (new i) (λ q. ap new (eqb-true i e q) ∙ t))))
     (bool_cases (new e))
   where

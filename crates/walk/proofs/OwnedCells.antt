@@ -10,13 +10,13 @@ use native.Mathlib.Omega.{arith}
 use lib.Dec.{eqb}
 use borrow.Author.Tests.{eqb-true}
 use lib.ListN.{length, get_or, length-append, length-map}
-use Rattle.walk.specs.Walk.{Visit, Inside, cellEdges, times, cell}
+use Rattle.walk.specs.Walk.{Visit, Inside, cell_edges, times, cell}
 use Rattle.walk.specs.Edges.{Edge, edge_of, crosses, has}
 use Rattle.walk.specs.Numbering.{Mesh, choose, hooks, joined, number}
-use Rattle.walk.specs.Ownership.{newEdges}
+use Rattle.walk.specs.Ownership.{new_edges}
 use Rattle.walk.proofs.Bools.{bool_cases}
-use Rattle.walk.proofs.GridEdges.{visit_at, edgeOf-same}
-use Rattle.walk.proofs.CellEdges.{cellEdges-lt, visit-crosses}
+use Rattle.walk.proofs.GridEdges.{visit_at, edge_of-same}
+use Rattle.walk.proofs.CellEdges.{cell_edges-lt, visit-crosses}
 use Rattle.walk.proofs.FirstUse.{number_append, number-snoc-same, number-snoc-other, number-zero, number-pos}
 use Rattle.walk.proofs.Home.{owns}
 use Rattle.walk.proofs.Ownership.{Met}
@@ -45,12 +45,12 @@ abbrev pub Told : Bool → ℕ → Type 0
 Told true i = i ≡ 0
 Told false i = 0 < i
 
-abbrev pub meshOf : List Edge → List Visit → List ℕ → Mesh (List Edge)
-meshOf ms made indices = record { memory = ms; made = made; indices = indices }
+abbrev pub mesh_of : List Edge → List Visit → List ℕ → Mesh (List Edge)
+mesh_of ms made indices = record { memory = ms; made = made; indices = indices }
 
-pub mesh-ext : {ms ns : List Edge} {vs ws : List Visit} {is js : List ℕ} → ms ≡ ns → vs ≡ ws → is ≡ js → meshOf ms vs is ≡ meshOf ns ws js
+pub mesh-ext : {ms ns : List Edge} {vs ws : List Visit} {is js : List ℕ} → ms ≡ ns → vs ≡ ws → is ≡ js → mesh_of ms vs is ≡ mesh_of ns ws js
 mesh-ext {ms} {ns} {vs} {ws} {is} {js} p q r =
-    ap (λ (t : List Edge). meshOf t vs is) p ∙ ap (λ (t : List Visit). meshOf ns t is) q ∙ ap (λ (t : List ℕ). meshOf ns ws t) r
+    ap (λ (t : List Edge). mesh_of t vs is) p ∙ ap (λ (t : List Visit). mesh_of ns t is) q ∙ ap (λ (t : List ℕ). mesh_of ns ws t) r
 
 module _ (x y z : ℕ) where
   abbrev pub key : ℕ → Edge
@@ -71,7 +71,7 @@ module _ (x y z : ℕ) where
       let i : number (key d) (ms ++ (key e ∷ [])) ≡ suc (length ms) = ap (λ (m : Edge). number m (ms ++ (key e ∷ []))) k ∙ number-snoc-same (key e) ms h in
       subst (λ (b : Bool). Told b (number (key d) (ms ++ (key e ∷ [])))) (sym (ap (λ (b : Bool). new d && not b) q ∙ and-false (new d))) (omega arith))
       (λ (f : eqb d e ≡ false).
-      let i : number (key d) (ms ++ (key e ∷ [])) ≡ number (key d) ms = number-snoc-other (key d) (key e) ms (edgeOf-same x y z d e hd he ∙ f) in
+      let i : number (key d) (ms ++ (key e ∷ [])) ≡ number (key d) ms = number-snoc-other (key d) (key e) ms (edge_of-same x y z d e hd he ∙ f) in
       subst (λ (b : Bool). Told b (number (key d) (ms ++ (key e ∷ [])))) (sym (ap (λ (b : Bool). new d && not b) f ∙ and-true (new d))) (subst (Told (new d)) (sym i) t))
       (bool_cases (eqb d e))
 
@@ -93,33 +93,33 @@ module _ (x y z : ℕ) where
 
   -- what is known of the new edges, and of the row once they are made
   pub record Outlook (new : ℕ → Bool) (ms : List Edge) (r : List ℕ) : Type 0 where
-    pub fresh : Fresh ms (newEdges new r)
-    pub all-met : AllMet (ms ++ map key (newEdges new r)) r
+    pub fresh : Fresh ms (new_edges new r)
+    pub all-met : AllMet (ms ++ map key (new_edges new r)) r
 
   pub outlook : (r : List ℕ) (new : ℕ → Bool) (ms : List Edge) → Known new ms r → Outlook new ms r
-  unfolding Known Fresh AllMet newEdges
+  unfolding Known Fresh AllMet new_edges
   outlook [] new ms k = record { fresh = tt; all-met = tt }
   outlook (e ∷ r) new ms k =
       ⊎_elim
       (λ (t : new e ≡ true).
       let later : ℕ → Bool = λ d. new d && not (eqb d e) in
       let h : number (key e) ms ≡ 0 = subst (λ (b : Bool). Told b (number (key e) ms)) t k.0 in
-      let es : List ℕ = newEdges later r in
+      let es : List ℕ = new_edges later r in
       let o = outlook r later (ms ++ (key e ∷ [])) (known_next new ms e r k.1 h k.2) in
       let i : number (key e) (ms ++ (key e ∷ [])) ≡ suc (length ms) = number-snoc-same (key e) ms h in
       let a : (ms ++ (key e ∷ [])) ++ map key es ≡ ms ++ (key e ∷ map key es) = append_assoc ms (key e ∷ []) (map key es) in
       let p : 0 < number (key e) ((ms ++ (key e ∷ [])) ++ map key es) = (let q = number_append (key e) (ms ++ (key e ∷ [])) (map key es) (omega arith) in omega arith) in
       record {
-        fresh = subst (λ (b : Bool). Fresh ms (cond b (e ∷ es) (newEdges new r))) (sym t) (h, k.1, o.fresh);
+        fresh = subst (λ (b : Bool). Fresh ms (cond b (e ∷ es) (new_edges new r))) (sym t) (h, k.1, o.fresh);
         all-met =
-            subst (λ (b : Bool). AllMet (ms ++ map key (cond b (e ∷ es) (newEdges new r))) (e ∷ r)) (sym t)
+            subst (λ (b : Bool). AllMet (ms ++ map key (cond b (e ∷ es) (new_edges new r))) (e ∷ r)) (sym t)
             (subst (λ (l : List Edge). AllMet l (e ∷ r)) a (p, k.1, o.all-met));
       })
       (λ (f : new e ≡ false).
       let h : 0 < number (key e) ms = subst (λ (b : Bool). Told b (number (key e) ms)) f k.0 in
-      let es : List ℕ = newEdges new r in
+      let es : List ℕ = new_edges new r in
       let o = outlook r new ms k.2 in
-      let later : List ℕ = newEdges (λ d. new d && not (eqb d e)) r in
+      let later : List ℕ = new_edges (λ d. new d && not (eqb d e)) r in
       let p : 0 < number (key e) (ms ++ map key es) = (let q = number_append (key e) ms (map key es) h in omega arith) in
       record {
         fresh = subst (λ (b : Bool). Fresh ms (cond b (e ∷ later) es)) (sym f) o.fresh;
@@ -133,16 +133,16 @@ module _ (x y z : ℕ) where
   visit e s = choose joined (number (key e) s.memory) (visit_at x y z e) s
 
   choose-new : (i e : ℕ) (s : Mesh (List Edge)) → i ≡ 0
-      → choose joined i (visit_at x y z e) s ≡ meshOf (s.memory ++ (key e ∷ [])) (s.made ++ (visit_at x y z e ∷ [])) (s.indices ++ (length s.made ∷ []))
+      → choose joined i (visit_at x y z e) s ≡ mesh_of (s.memory ++ (key e ∷ [])) (s.made ++ (visit_at x y z e ∷ [])) (s.indices ++ (length s.made ∷ []))
   unfolding choose joined
   choose-new zero e s h = refl
   choose-new (suc i) e s h = absurd (omega arith)
 
   choose-old : (i e : ℕ) (s : Mesh (List Edge)) → 0 < i
-      → choose joined i (visit_at x y z e) s ≡ meshOf s.memory s.made (s.indices ++ ((i - 1) ∷ []))
+      → choose joined i (visit_at x y z e) s ≡ mesh_of s.memory s.made (s.indices ++ ((i - 1) ∷ []))
   unfolding choose
   choose-old zero e s h = absurd (omega arith)
-  choose-old (suc i) e s h = ap (λ (j : ℕ). meshOf s.memory s.made (s.indices ++ (j ∷ []))) (let q : i ≡ suc i - 1 = omega arith in q)
+  choose-old (suc i) e s h = ap (λ (j : ℕ). mesh_of s.memory s.made (s.indices ++ (j ∷ []))) (let q : i ≡ suc i - 1 = omega arith in q)
 
   -- the indices of the row, once all is made
   abbrev pub numbers : List Edge → List ℕ → List ℕ
@@ -150,9 +150,9 @@ module _ (x y z : ℕ) where
 
   made-first : (r : List ℕ) (new : ℕ → Bool) (s : Mesh (List Edge)) → length s.made ≡ length s.memory → Known new s.memory r
       → fold visit r s
-      ≡ meshOf (s.memory ++ map key (newEdges new r)) (s.made ++ map (visit_at x y z) (newEdges new r))
-      (s.indices ++ numbers (s.memory ++ map key (newEdges new r)) r)
-  unfolding fold visit newEdges Known
+      ≡ mesh_of (s.memory ++ map key (new_edges new r)) (s.made ++ map (visit_at x y z) (new_edges new r))
+      (s.indices ++ numbers (s.memory ++ map key (new_edges new r)) r)
+  unfolding fold visit new_edges Known
   made-first [] new s l k = mesh-ext (sym (append-nil s.memory)) (sym (append-nil s.made)) (sym (append-nil s.indices))
   made-first (e ∷ r) new s l k =
       let later : ℕ → Bool = λ d. new d && not (eqb d e) in
@@ -161,8 +161,8 @@ module _ (x y z : ℕ) where
       (λ (t : new e ≡ true).
       let h : number (key e) ms ≡ 0 = subst (λ (b : Bool). Told b (number (key e) ms)) t k.0 in
       let ns : List Edge = ms ++ (key e ∷ []) in
-      let es : List ℕ = newEdges later r in
-      let u : Mesh (List Edge) = meshOf ns (s.made ++ (visit_at x y z e ∷ [])) (s.indices ++ (length s.made ∷ [])) in
+      let es : List ℕ = new_edges later r in
+      let u : Mesh (List Edge) = mesh_of ns (s.made ++ (visit_at x y z e ∷ [])) (s.indices ++ (length s.made ∷ [])) in
       let m : length (s.made ++ (visit_at x y z e ∷ [])) ≡ length ns = length-append s.made (visit_at x y z e ∷ []) ∙ ap (λ (i : ℕ). i + 1) l ∙ sym (length-append ms (key e ∷ [])) in
       let a : ns ++ map key es ≡ ms ++ (key e ∷ map key es) = append_assoc ms (key e ∷ []) (map key es) in
       let i : number (key e) ns ≡ suc (length ms) = number-snoc-same (key e) ms h in
@@ -174,12 +174,12 @@ module _ (x y z : ℕ) where
       (append_assoc s.indices (length s.made ∷ []) (numbers (ns ++ map key es) r)
       ∙ ap₂ (λ (p : ℕ) (q : List Edge). s.indices ++ (p ∷ numbers q r)) last a)
       ∙ ap (λ (b : Bool).
-      meshOf (ms ++ map key (cond b (e ∷ es) (newEdges new r))) (s.made ++ map (visit_at x y z) (cond b (e ∷ es) (newEdges new r)))
-      (s.indices ++ numbers (ms ++ map key (cond b (e ∷ es) (newEdges new r))) (e ∷ r))) (sym t))
+      mesh_of (ms ++ map key (cond b (e ∷ es) (new_edges new r))) (s.made ++ map (visit_at x y z) (cond b (e ∷ es) (new_edges new r)))
+      (s.indices ++ numbers (ms ++ map key (cond b (e ∷ es) (new_edges new r))) (e ∷ r))) (sym t))
       (λ (f : new e ≡ false).
       let h : 0 < number (key e) ms = subst (λ (b : Bool). Told b (number (key e) ms)) f k.0 in
-      let es : List ℕ = newEdges new r in
-      let u : Mesh (List Edge) = meshOf ms s.made (s.indices ++ ((number (key e) ms - 1) ∷ [])) in
+      let es : List ℕ = new_edges new r in
+      let u : Mesh (List Edge) = mesh_of ms s.made (s.indices ++ ((number (key e) ms - 1) ∷ [])) in
       let i : number (key e) ms - 1 ≡ number (key e) (ms ++ map key es) - 1 = ap (λ (p : ℕ). p - 1) (sym (number_append (key e) ms (map key es) h)) in
       ap (fold visit r) (choose-old (number (key e) ms) e s h)
       ∙ made-first r new u l k.2
@@ -187,8 +187,8 @@ module _ (x y z : ℕ) where
       (append_assoc s.indices ((number (key e) ms - 1) ∷ []) (numbers (ms ++ map key es) r)
       ∙ ap (λ (p : ℕ). s.indices ++ (p ∷ numbers (ms ++ map key es) r)) i)
       ∙ ap (λ (b : Bool).
-      meshOf (ms ++ map key (cond b (e ∷ newEdges later r) es)) (s.made ++ map (visit_at x y z) (cond b (e ∷ newEdges later r) es))
-      (s.indices ++ numbers (ms ++ map key (cond b (e ∷ newEdges later r) es)) (e ∷ r))) (sym f))
+      mesh_of (ms ++ map key (cond b (e ∷ new_edges later r) es)) (s.made ++ map (visit_at x y z) (cond b (e ∷ new_edges later r) es))
+      (s.indices ++ numbers (ms ++ map key (cond b (e ∷ new_edges later r) es)) (e ∷ r))) (sym f))
       (bool_cases (new e))
 
 -- ---- along the walk
@@ -212,18 +212,18 @@ module _ (g : Inside) (n layers z y x : ℕ) (lz : z < layers) (ly : y < n - 1) 
         known-each r (λ j l. h (suc j) (omega arith)),
       )
 
-  known-cell : Known x y z (owns x y z) s.memory (cellEdges g x y z)
-  known-cell = known-each (cellEdges g x y z) (λ j l. (cellEdges-lt g x y z j l, visit-crosses g x y z j l))
+  known-cell : Known x y z (owns x y z) s.memory (cell_edges g x y z)
+  known-cell = known-each (cell_edges g x y z) (λ j l. (cell_edges-lt g x y z j l, visit-crosses g x y z j l))
 
-  pub cell-outlook : Outlook x y z (owns x y z) s.memory (cellEdges g x y z)
-  cell-outlook = outlook x y z (cellEdges g x y z) (owns x y z) s.memory known-cell
+  pub cell-outlook : Outlook x y z (owns x y z) s.memory (cell_edges g x y z)
+  cell-outlook = outlook x y z (cell_edges g x y z) (owns x y z) s.memory known-cell
 
   -- the cell makes its new edges, and its indices are the numbers that its row's edges then have
   pub cell-by-ownership :
       cell (hooks joined) g n z y x s
-      ≡ meshOf (s.memory ++ map (key x y z) (newEdges (owns x y z) (cellEdges g x y z))) (s.made ++ map (visit_at x y z) (newEdges (owns x y z) (cellEdges g x y z)))
-      (s.indices ++ numbers x y z (s.memory ++ map (key x y z) (newEdges (owns x y z) (cellEdges g x y z))) (cellEdges g x y z))
+      ≡ mesh_of (s.memory ++ map (key x y z) (new_edges (owns x y z) (cell_edges g x y z))) (s.made ++ map (visit_at x y z) (new_edges (owns x y z) (cell_edges g x y z)))
+      (s.indices ++ numbers x y z (s.memory ++ map (key x y z) (new_edges (owns x y z) (cell_edges g x y z))) (cell_edges g x y z))
   unfolding cell hooks joined visit
   cell-by-ownership =
       let l : length s.made ≡ length s.memory = sym (length-map s.made edge_of) ∙ ap length p.edges in
-      times-fold (visit x y z) 0 (cellEdges g x y z) s ∙ made-first x y z (cellEdges g x y z) (owns x y z) s l known-cell
+      times-fold (visit x y z) 0 (cell_edges g x y z) s ∙ made-first x y z (cell_edges g x y z) (owns x y z) s l known-cell

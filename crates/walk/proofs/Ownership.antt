@@ -11,22 +11,22 @@ use native.Mathlib.Omega.{arith}
 use lib.Dec.{eqb, ltb}
 use lib.ListN.{length, get_or}
 use borrow.Author.Tests.{eqb-true, eqb-false, eq-eqb, ne_eqb, lt-ltb, le-ltb}
-use Rattle.walk.specs.Walk.{Visit, Inside, visitOf, cellEdges, times}
+use Rattle.walk.specs.Walk.{Visit, Inside, visit_of, cell_edges, times}
 use Rattle.walk.specs.Edges.{Edge, edge_of, crosses, same, has, distinct}
 use Rattle.walk.specs.Numbering.{Mesh, empty, choose, hooks, mesh, joined, number}
 use Rattle.walk.proofs.Bools.{bool_cases, or_split}
-use Rattle.walk.proofs.GridEdges.{visit_at, same_true, same_of, InBox, edgeOf-inBox}
-use Rattle.walk.proofs.CellEdges.{cellEdges-lt, visit-crosses, crossing-visited}
+use Rattle.walk.proofs.GridEdges.{visit_at, same_true, same_of, InBox, edge_of-in_box}
+use Rattle.walk.proofs.CellEdges.{cell_edges-lt, visit-crosses, crossing-visited}
 use Rattle.walk.proofs.WalkInduction.{Steps, Alone, walk-holds}
 use Rattle.walk.proofs.FirstUse.{has-snoc, distinct_snoc, number-zero, number-pos}
 use Rattle.walk.proofs.Rank.{rank, rank-injective, rank-suc, rank-row-end, rank-layer-end, rank-start, rank-lt-end}
-use Rattle.walk.proofs.Home.{homeX, homeY, homeZ, home, home-le, box-home}
+use Rattle.walk.proofs.Home.{home_x, home_y, home_z, home, home-le, box-home}
 
 -- ---- what has been met
 
 -- the edge k is named by one of the first j visits of the cell
 unfoldable pub named : Inside → ℕ → ℕ → ℕ → ℕ → Edge → Bool
-named g x y z j k = times j (λ i b. b || same k (edge_of (visitOf g x y z i))) false
+named g x y z j k = times j (λ i b. b || same k (edge_of (visit_of g x y z i))) false
 
 -- over layers of m by m cells
 unfoldable pub met : Inside → ℕ → ℕ → ℕ → ℕ → ℕ → Edge → Bool
@@ -116,17 +116,17 @@ times-or f (suc k) i h t =
 
 module _ (g : Inside) (n layers : ℕ) where
   -- the edge of a visit
-  module _ (z y x j : ℕ) (lz : z < layers) (ly : y < n - 1) (lx : x < n - 1) (lj : j < length (cellEdges g x y z)) where
-    pub visit-boxed : InBox n layers (edge_of (visitOf g x y z j))
-    visit-boxed = edgeOf-inBox x y z (get_or (cellEdges g x y z) j 0) (cellEdges-lt g x y z j lj) n layers lx ly lz
+  module _ (z y x j : ℕ) (lz : z < layers) (ly : y < n - 1) (lx : x < n - 1) (lj : j < length (cell_edges g x y z)) where
+    pub visit-boxed : InBox n layers (edge_of (visit_of g x y z j))
+    visit-boxed = edge_of-in_box x y z (get_or (cell_edges g x y z) j 0) (cell_edges-lt g x y z j lj) n layers lx ly lz
 
-    visit-home : (ltb (home (n - 1) (edge_of (visitOf g x y z j))) (rank (n - 1) x y z) || eqb (home (n - 1) (edge_of (visitOf g x y z j))) (rank (n - 1) x y z)) ≡ true
-    visit-home = lt-or-eq _ _ (home-le (n - 1) x y z (get_or (cellEdges g x y z) j 0) (cellEdges-lt g x y z j lj))
+    visit-home : (ltb (home (n - 1) (edge_of (visit_of g x y z j))) (rank (n - 1) x y z) || eqb (home (n - 1) (edge_of (visit_of g x y z j))) (rank (n - 1) x y z)) ≡ true
+    visit-home = lt-or-eq _ _ (home-le (n - 1) x y z (get_or (cell_edges g x y z) j 0) (cell_edges-lt g x y z j lj))
 
-    visit-met : (s : Mesh (List Edge)) → Met g n layers z y x j s → Met g n layers z y x (suc j) ((hooks joined).visit (visitOf g x y z j) s)
+    visit-met : (s : Mesh (List Edge)) → Met g n layers z y x j s → Met g n layers z y x (suc j) ((hooks joined).visit (visit_of g x y z j) s)
     unfolding hooks joined met named times
     visit-met s i =
-        let v : Visit = visitOf g x y z j in
+        let v : Visit = visit_of g x y z j in
         let q : ℕ = number (edge_of v) s.memory in
         let m : ℕ = n - 1 in
         record {
@@ -142,35 +142,35 @@ module _ (g : Inside) (n layers : ℕ) where
               (λ t. ap (λ (o : Edge). ltb (home m o) (rank m x y z) || eqb (home m o) (rank m x y z)) (same_true k (edge_of v) t) ∙ visit-home);
         }
 
-  named-at : (x y z j e : ℕ) (k : Edge) → j < length (cellEdges g x y z) → get_or (cellEdges g x y z) j 0 ≡ e → edge_of (visit_at x y z e) ≡ k
-      → named g x y z (length (cellEdges g x y z)) k ≡ true
+  named-at : (x y z j e : ℕ) (k : Edge) → j < length (cell_edges g x y z) → get_or (cell_edges g x y z) j 0 ≡ e → edge_of (visit_at x y z e) ≡ k
+      → named g x y z (length (cell_edges g x y z)) k ≡ true
   unfolding named
   named-at x y z j e k l h w =
-      times-or (λ i. same k (edge_of (visitOf g x y z i))) (length (cellEdges g x y z)) j l
-      (same_of k (edge_of (visitOf g x y z j)) (sym (ap (λ (o : ℕ). edge_of (visit_at x y z o)) h ∙ w)))
+      times-or (λ i. same k (edge_of (visit_of g x y z i))) (length (cell_edges g x y z)) j l
+      (same_of k (edge_of (visit_of g x y z j)) (sym (ap (λ (o : ℕ). edge_of (visit_at x y z o)) h ∙ w)))
 
   -- a crossing edge whose home is this cell is named by it
   home-named : (z y x : ℕ) → z < layers → y < n - 1 → x < n - 1 → (k : Edge) → InBox n layers k → crosses g k ≡ true
       → home (n - 1) k ≡ rank (n - 1) x y z
-      → named g x y z (length (cellEdges g x y z)) k ≡ true
+      → named g x y z (length (cell_edges g x y z)) k ≡ true
   unfolding home
   home-named z y x lz ly lx k b c h =
       let d = box-home n layers k (omega arith) (omega arith) b in
-      let i = rank-injective (n - 1) x y z (homeX k) (homeY k) (homeZ k) lx ly d.x_lt d.y-lt h in
+      let i = rank-injective (n - 1) x y z (home_x k) (home_y k) (home_z k) lx ly d.x_lt d.y-lt h in
       let w : edge_of (visit_at x y z d.edge) ≡ k =
       ap (λ (o : ℕ). edge_of (visit_at o y z d.edge)) (sym i.0)
-      ∙ ap (λ (o : ℕ). edge_of (visit_at (homeX k) o z d.edge)) (sym i.1)
-      ∙ ap (λ (o : ℕ). edge_of (visit_at (homeX k) (homeY k) o d.edge)) (sym i.2) ∙ d.is in
+      ∙ ap (λ (o : ℕ). edge_of (visit_at (home_x k) o z d.edge)) (sym i.1)
+      ∙ ap (λ (o : ℕ). edge_of (visit_at (home_x k) (home_y k) o d.edge)) (sym i.2) ∙ d.is in
       let j = crossing-visited g x y z d.edge d.edge-lt (ap (crosses g) w ∙ c) in
       named-at x y z j.0 d.edge k j.1 j.2 w
 
   cell-met : (z y x : ℕ) → z < layers → y < n - 1 → x < n - 1 → (k : Edge) → InBox n layers k
-      → met g (n - 1) x y z (length (cellEdges g x y z)) k ≡ met g (n - 1) (suc x) y z 0 k
+      → met g (n - 1) x y z (length (cell_edges g x y z)) k ≡ met g (n - 1) (suc x) y z 0 k
   unfolding met named times
   cell-met z y x lz ly lx k b =
       let h : ℕ = home (n - 1) k in
       let r : ℕ = rank (n - 1) x y z in
-      cell-known (crosses g k) (ltb h r) (eqb h r) (named g x y z (length (cellEdges g x y z)) k) (eqb h (suc r))
+      cell-known (crosses g k) (ltb h r) (eqb h r) (named g x y z (length (cell_edges g x y z)) k) (eqb h (suc r))
       (λ c e. home-named z y x lz ly lx k b c (eqb-true h r e))
       ∙ ap (λ (t : Bool). crosses g k && (t || (eqb h (suc r) && false))) (sym (lt-suc h r))
       ∙ ap (λ (o : ℕ). crosses g k && (ltb h o || (eqb h o && false))) (sym (rank-suc (n - 1) x y z))
@@ -189,9 +189,9 @@ module _ (g : Inside) (n layers : ℕ) where
   met-steps =
       record {
         visit = λ z y x j s t lz ly lx lj p. visit-met z y x j lz ly lx lj s p;
-        cellEnd = λ z y x s t lz ly lx p. moved z y x (length (cellEdges g x y z)) z y (suc x) 0 s (cell-met z y x lz ly lx) p;
-        rowEnd = λ z y s t lz ly p. moved z y (n - 1) 0 z (suc y) 0 0 s (λ k h. at-rank (n - 1) y z 0 (suc y) z (rank-row-end (n - 1) y z) k) p;
-        layerEnd = λ z s t lz p. moved z (n - 1) 0 0 (suc z) 0 0 0 s (λ k h. at-rank 0 (n - 1) z 0 0 (suc z) (rank-layer-end (n - 1) z) k) p;
+        cell_end = λ z y x s t lz ly lx p. moved z y x (length (cell_edges g x y z)) z y (suc x) 0 s (cell-met z y x lz ly lx) p;
+        row_end = λ z y s t lz ly p. moved z y (n - 1) 0 z (suc y) 0 0 s (λ k h. at-rank (n - 1) y z 0 (suc y) z (rank-row-end (n - 1) y z) k) p;
+        layer_end = λ z s t lz p. moved z (n - 1) 0 0 (suc z) 0 0 0 s (λ k h. at-rank 0 (n - 1) z 0 0 (suc z) (rank-layer-end (n - 1) z) k) p;
       }
 
   pub met_start : Met g n layers 0 0 0 0 (empty [])
@@ -217,5 +217,5 @@ module _ (g : Inside) (n layers : ℕ) where
       let d = box-home n layers k p q b in
       let r : ℕ = rank (n - 1) 0 0 layers in
       ap (λ (t : Bool). crosses g k && (t || (eqb (home (n - 1) k) r && false)))
-      (lt-ltb (home (n - 1) k) r (rank-lt-end (n - 1) layers (homeX k) (homeY k) (homeZ k) d.x_lt d.y-lt d.z-lt))
+      (lt-ltb (home (n - 1) k) r (rank-lt-end (n - 1) layers (home_x k) (home_y k) (home_z k) d.x_lt d.y-lt d.z-lt))
       ∙ and-true (crosses g k)

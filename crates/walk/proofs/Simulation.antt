@@ -5,10 +5,10 @@ use mathlib.Core.List.{List, [], ◌∷◌, ◌++◌}
 use Prim.Native.Nat.{ℕ, zero, suc, ◌+◌, ◌-◌, ◌<◌}
 use native.Mathlib.Omega.{arith}
 use lib.ListN.{length}
-use Rattle.walk.specs.Walk.{Visit, Inside, visitOf}
+use Rattle.walk.specs.Walk.{Visit, Inside, visit_of}
 use Rattle.walk.specs.Numbering.{Numbering, Mesh, empty, choose, hooks, mesh}
 use Rattle.walk.proofs.Each.{length-snoc}
-use Rattle.walk.proofs.CellEdges.{cellEdges-lt}
+use Rattle.walk.proofs.CellEdges.{cell_edges-lt}
 use Rattle.walk.proofs.WalkInduction.{Steps, walk_kept}
 
 -- a visit in layer z of a grid of size n
@@ -23,9 +23,9 @@ pub record Simulates {C D : Type 0} (R : ℕ → ℕ → C → D → Type 0) (n 
   pub look : (z i : ℕ) (v : Visit) (s : C) (t : D) → InLayer n z v → R z i s t → d.look v t ≡ c.look v s
   pub note : (z i : ℕ) (v : Visit) (s : C) (t : D) → InLayer n z v → c.look v s ≡ 0 → R z i s t
       → R z (i + 1) (c.note v i s) (d.note v i t)
-  pub cellEnd : (z i : ℕ) (s : C) (t : D) → R z i s t → R z i (c.cellEnd s) (d.cellEnd t)
-  pub rowEnd : (z i : ℕ) (s : C) (t : D) → R z i s t → R z i (c.rowEnd s) (d.rowEnd t)
-  pub layerEnd : (z i : ℕ) (s : C) (t : D) → R z i s t → R (suc z) i (c.layerEnd s) (d.layerEnd t)
+  pub cell_end : (z i : ℕ) (s : C) (t : D) → R z i s t → R z i (c.cell_end s) (d.cell_end t)
+  pub row_end : (z i : ℕ) (s : C) (t : D) → R z i s t → R z i (c.row_end s) (d.row_end t)
+  pub layer_end : (z i : ℕ) (s : C) (t : D) → R z i s t → R (suc z) i (c.layer_end s) (d.layer_end t)
 
 pub record Agree {C D : Type 0} (R : ℕ → C → D → Type 0) (s : Mesh C) (t : Mesh D) : Type 0 where
   pub memory : R (length s.made) s.memory t.memory
@@ -53,13 +53,13 @@ module _ {C D : Type 0} (R : ℕ → ℕ → C → D → Type 0) (n : ℕ) (c : 
   agree-steps g layers =
       record {
         visit = λ z y x j s t lz ly lx lj p.
-            let v : Visit = visitOf g x y z j in
-            let b : InLayer n z v = record { x_lt = omega arith; y-lt = omega arith; layer = refl; edge-lt = cellEdges-lt g x y z j lj } in
+            let v : Visit = visit_of g x y z j in
+            let b : InLayer n z v = record { x_lt = omega arith; y-lt = omega arith; layer = refl; edge-lt = cell_edges-lt g x y z j lj } in
             subst (λ (i : ℕ). Agree (R z) (choose c (c.look v s.memory) v s) (choose d i v t)) (sym (q.look z (length s.made) v s.memory t.memory b p.memory))
             (choose-agree z v b s t p (c.look v s.memory) refl);
-        cellEnd = λ z y x s t lz ly lx p. record { memory = q.cellEnd z _ _ _ p.memory; made = p.made; indices = p.indices };
-        rowEnd = λ z y s t lz ly p. record { memory = q.rowEnd z _ _ _ p.memory; made = p.made; indices = p.indices };
-        layerEnd = λ z s t lz p. record { memory = q.layerEnd z _ _ _ p.memory; made = p.made; indices = p.indices };
+        cell_end = λ z y x s t lz ly lx p. record { memory = q.cell_end z _ _ _ p.memory; made = p.made; indices = p.indices };
+        row_end = λ z y s t lz ly p. record { memory = q.row_end z _ _ _ p.memory; made = p.made; indices = p.indices };
+        layer_end = λ z s t lz p. record { memory = q.layer_end z _ _ _ p.memory; made = p.made; indices = p.indices };
       }
 
   pub meshes-agree : (g : Inside) (layers : ℕ) (s : C) (t : D) → R 0 0 s t → Agree (R layers) (mesh c s g n layers) (mesh d t g n layers)

@@ -8,8 +8,8 @@ use Prim.Native.Nat.{ℕ, suc, ◌-◌, ◌*◌, ◌%◌, ◌^◌, ◌<◌, ◌�
 use lib.Dec.{eqb, lit<}
 use lib.ListN.{length, get_or, take}
 use Rattle.marching_cubes_tables.specs.Rule.{member}
-use Rattle.walk.specs.Walk.{Visit, Inside, visitOf, cellEdges, visits}
-use Rattle.walk.specs.Edges.{Edge, edge_of, crosses, inBox, has, distinct, crossings}
+use Rattle.walk.specs.Walk.{Visit, Inside, visit_of, cell_edges, visits}
+use Rattle.walk.specs.Edges.{Edge, edge_of, crosses, in_box, has, distinct, crossings}
 use Rattle.walk.specs.Cache.{Cache, fresh}
 use Rattle.walk.specs.Numbering.{Numbering, empty, hooks, mesh, joined, crate}
 use Rattle.walk.specs.Ownership.{owned}
@@ -19,7 +19,7 @@ use Rattle.walk.proofs.NewVisits.{look-owned}
 use Rattle.walk.proofs.Crossings.{made-once, made-exactly, made-count}
 use Rattle.walk.proofs.Counts.{Visited, no_visit, indices-count, indices-threes, made-le-indices, indices-most, indices-fit, made-visited}
 use Rattle.walk.proofs.IndicesBelow.{Held, joined-sound, crate-sound, fresh-held, bounded-end, bounded-before}
-use Rattle.walk.proofs.CrateNumbering.{withoutCells, cells-never-matter, absent-zero}
+use Rattle.walk.proofs.CrateNumbering.{without_cells, cells-never-matter, absent-zero}
 
 -- ---- joined
 
@@ -29,7 +29,7 @@ joined_once = made-once
 
 -- The edges that have a vertex are exactly the grid edges of the box whose ends differ in sign.
 pub joined-exactly : (g : Inside) (n layers : ℕ) → 2 ≤ n → 1 ≤ layers → (k : Edge)
-    → has k (map edge_of (mesh joined [] g n layers).made) ≡ (inBox n layers k && crosses g k)
+    → has k (map edge_of (mesh joined [] g n layers).made) ≡ (in_box n layers k && crosses g k)
 joined-exactly = made-exactly
 
 -- So V is their number.
@@ -39,9 +39,9 @@ joined-count = made-count
 
 -- Which visits make a vertex follows from the cell's place alone: edge e is new in the cell (x, y, z) exactly if `owned` says so of x = 0, y = 0 and
 -- z = 0, and the cell has not named it already.
-pub joined-ownership : (g : Inside) (n z y x j : ℕ) → y < n - 1 → x < n - 1 → j < length (cellEdges g x y z)
-    → eqb (joined.look (visitOf g x y z j) (before (hooks joined) g n z y x j (empty [])).memory) 0
-    ≡ (owned (eqb x 0) (eqb y 0) (eqb z 0) (get_or (cellEdges g x y z) j 0) && not (member (get_or (cellEdges g x y z) j 0) (take j (cellEdges g x y z))))
+pub joined-ownership : (g : Inside) (n z y x j : ℕ) → y < n - 1 → x < n - 1 → j < length (cell_edges g x y z)
+    → eqb (joined.look (visit_of g x y z j) (before (hooks joined) g n z y x j (empty [])).memory) 0
+    ≡ (owned (eqb x 0) (eqb y 0) (eqb z 0) (get_or (cell_edges g x y z) j 0) && not (member (get_or (cell_edges g x y z) j 0) (take j (cell_edges g x y z))))
 joined-ownership = look-owned
 
 -- ---- either numbering
@@ -81,12 +81,12 @@ pub crate-indices : (g : Inside) (n layers : ℕ)
 crate-indices g n layers = (bounded-end Held (crate n) (crate-sound n) fresh fresh-held g n layers).indices
 
 -- and under the number of vertices made so far when it is written: after each visit j of each cell.
-pub joined-indices-written : (g : Inside) (n layers z y x j : ℕ) → z < layers → y < n - 1 → x < n - 1 → j < length (cellEdges g x y z)
+pub joined-indices-written : (g : Inside) (n layers z y x j : ℕ) → z < layers → y < n - 1 → x < n - 1 → j < length (cell_edges g x y z)
     → Each (λ i. i < length (before (hooks joined) g n z y x (suc j) (empty [])).made) 0 (before (hooks joined) g n z y x (suc j) (empty [])).indices
 joined-indices-written g n layers z y x j lz ly lx lj =
     (bounded-before (λ made ms. length ms ≡ made) joined joined-sound [] refl g n layers z y x (suc j) lz ly lx lj).indices
 
-pub crate-indices-written : (g : Inside) (n layers z y x j : ℕ) → z < layers → y < n - 1 → x < n - 1 → j < length (cellEdges g x y z)
+pub crate-indices-written : (g : Inside) (n layers z y x j : ℕ) → z < layers → y < n - 1 → x < n - 1 → j < length (cell_edges g x y z)
     → Each (λ i. i < length (before (hooks (crate n)) g n z y x (suc j) (empty fresh)).made) 0 (before (hooks (crate n)) g n z y x (suc j) (empty fresh)).indices
 crate-indices-written g n layers z y x j lz ly lx lj =
     (bounded-before Held (crate n) (crate-sound n) fresh fresh-held g n layers z y x (suc j) lz ly lx lj).indices
@@ -95,8 +95,8 @@ crate-indices-written g n layers z y x j lz ly lx lj =
 
 -- `cells` never matters: wiped before every call, it leaves the same mesh. So code need not hold it.
 pub crate-without-cells : (g : Inside) (n layers : ℕ)
-    → ((mesh (withoutCells n) fresh g n layers).made ≡ (mesh (crate n) fresh g n layers).made)
-    × ((mesh (withoutCells n) fresh g n layers).indices ≡ (mesh (crate n) fresh g n layers).indices)
+    → ((mesh (without_cells n) fresh g n layers).made ≡ (mesh (crate n) fresh g n layers).made)
+    × ((mesh (without_cells n) fresh g n layers).indices ≡ (mesh (crate n) fresh g n layers).indices)
 crate-without-cells = cells-never-matter
 
 -- At most one vertex number ever reads as absent, number 0: a number that was noted where none was, and that the same visit, asked again, does not

@@ -29,23 +29,23 @@ unfoldable pub stored : {A : Type 0} → (ℕ → A) → ℕ → A → ℕ → A
 stored f i v j = cond (eqb j i) v (f j)
 
 -- the columns of `rows` that `put` writes and `get` reads for an edge; 3 where there is none
-unfoldable pub putColumn : ℕ → ℕ
-putColumn e = cond (eqb e 6) 0 (cond (eqb e 11) 1 (cond (eqb e 10) 2 3))
+unfoldable pub put_column : ℕ → ℕ
+put_column e = cond (eqb e 6) 0 (cond (eqb e 11) 1 (cond (eqb e 10) 2 3))
 
-unfoldable pub getColumn : ℕ → ℕ
-getColumn e = cond (eqb e 4) 0 (cond (eqb e 8) 1 (cond (eqb e 9) 2 3))
+unfoldable pub get_column : ℕ → ℕ
+get_column e = cond (eqb e 4) 0 (cond (eqb e 8) 1 (cond (eqb e 9) 2 3))
 
 -- the edges that `put` writes to `layers`
-unfoldable pub inLayer : ℕ → Bool
-inLayer e = leb 4 e && leb e 7
+unfoldable pub in_layer : ℕ → Bool
+in_layer e = leb 4 e && leb e 7
 
 unfoldable pub put : ℕ → ℕ → ℕ → ℕ → ℕ → Cache → Cache
 put n x y e index c =
     record {
       layers0 = c.layers0;
-      layers1 = cond (inLayer e) (stored c.layers1 (y * n + x) (stored (c.layers1 (y * n + x)) (e - 4) index)) c.layers1;
+      layers1 = cond (in_layer e) (stored c.layers1 (y * n + x) (stored (c.layers1 (y * n + x)) (e - 4) index)) c.layers1;
       rows0 = c.rows0;
-      rows1 = cond (ltb (putColumn e) 3) (stored c.rows1 x (stored (c.rows1 x) (putColumn e) index)) c.rows1;
+      rows1 = cond (ltb (put_column e) 3) (stored c.rows1 x (stored (c.rows1 x) (put_column e) index)) c.rows1;
       cells0 = c.cells0;
       cells1 = cond (eqb e 5 || eqb e 10) (stored c.cells1 0 index) c.cells1;
       current = stored c.current e index;
@@ -55,14 +55,14 @@ put n x y e index c =
 unfoldable pub found : ℕ → ℕ → ℕ → ℕ → Cache → ℕ
 found n x y e c =
     cond (leb e 3) (c.layers0 (y * n + x) e)
-    (cond (ltb (getColumn e) 3) (c.rows0 x (getColumn e))
+    (cond (ltb (get_column e) 3) (c.rows0 x (get_column e))
     (cond (eqb e 7 || eqb e 11) (c.cells0 1) 0))
 
 unfoldable pub get : ℕ → ℕ → ℕ → ℕ → Cache → ℕ
 get n x y e c = cond (ltb 0 (found n x y e c)) (found n x y e c) (c.current e)
 
-unfoldable pub advanceCell : Cache → Cache
-advanceCell c =
+unfoldable pub advance_cell : Cache → Cache
+advance_cell c =
     record {
       layers0 = c.layers0;
       layers1 = c.layers1;
@@ -73,8 +73,8 @@ advanceCell c =
       current = λ e. 0;
     }
 
-unfoldable pub advanceRow : Cache → Cache
-advanceRow c =
+unfoldable pub advance_row : Cache → Cache
+advance_row c =
     record {
       layers0 = c.layers0;
       layers1 = c.layers1;
@@ -85,8 +85,8 @@ advanceRow c =
       current = c.current;
     }
 
-unfoldable pub advanceLayer : Cache → Cache
-advanceLayer c =
+unfoldable pub advance_layer : Cache → Cache
+advance_layer c =
     record {
       layers0 = c.layers1;
       layers1 = c.layers0;

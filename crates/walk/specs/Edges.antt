@@ -2,7 +2,7 @@
 -- "Grid and walk": a visit names a grid edge, two neighbouring samples.
 use Rattle.std.specs.Prelude.{Bool, true, false, cond, ◌&&◌, ◌||◌, not, List, [], ◌∷◌, ◌++◌, ℕ, zero, suc, ◌+◌, min, eqb, ltb, leb}
 use Rattle.std.specs.Bool.{beq}
-use Rattle.marching_cubes_tables.specs.Tables.{cornerOffset, edgeEnd}
+use Rattle.marching_cubes_tables.specs.Tables.{corner_offset, edge_end}
 use Rattle.walk.specs.Walk.{Visit, Inside}
 
 -- from the sample (x, y, z) to its neighbour along the axis 0, 1 or 2
@@ -15,19 +15,19 @@ pub record Edge : Type 0 where
 -- ---- the grid edge of a visit
 
 -- the axis along which the two corners of the edge e of a cell differ
-unfoldable pub axisOf : ℕ → ℕ
-axisOf e =
-    cond (eqb (cornerOffset (edgeEnd e 0) 0) (cornerOffset (edgeEnd e 1) 0))
-    (cond (eqb (cornerOffset (edgeEnd e 0) 1) (cornerOffset (edgeEnd e 1) 1)) 2 1)
+unfoldable pub axis_of : ℕ → ℕ
+axis_of e =
+    cond (eqb (corner_offset (edge_end e 0) 0) (corner_offset (edge_end e 1) 0))
+    (cond (eqb (corner_offset (edge_end e 0) 1) (corner_offset (edge_end e 1) 1)) 2 1)
     0
 
 -- how far along the axis i its lower corner lies
-unfoldable pub lowOffset : ℕ → ℕ → ℕ
-lowOffset e i = min (cornerOffset (edgeEnd e 0) i) (cornerOffset (edgeEnd e 1) i)
+unfoldable pub low_offset : ℕ → ℕ → ℕ
+low_offset e i = min (corner_offset (edge_end e 0) i) (corner_offset (edge_end e 1) i)
 
 unfoldable pub edge_of : Visit → Edge
 edge_of v =
-    record { axis = axisOf v.edge; x = v.x + lowOffset v.edge 0; y = v.y + lowOffset v.edge 1; z = v.z + lowOffset v.edge 2 }
+    record { axis = axis_of v.edge; x = v.x + low_offset v.edge 0; y = v.y + low_offset v.edge 1; z = v.z + low_offset v.edge 2 }
 
 -- ---- its two ends
 
@@ -40,8 +40,8 @@ unfoldable pub crosses : Inside → Edge → Bool
 crosses g k = not (beq (g k.x k.y k.z) (g (k.x + reach k.axis 0) (k.y + reach k.axis 1) (k.z + reach k.axis 2)))
 
 -- both ends are samples of the box, n by n by layers + 1
-unfoldable pub inBox : ℕ → ℕ → Edge → Bool
-inBox n layers k =
+unfoldable pub in_box : ℕ → ℕ → Edge → Bool
+in_box n layers k =
     ltb k.axis 3
     && (ltb (k.x + reach k.axis 0) n && (ltb (k.y + reach k.axis 1) n && leb (k.z + reach k.axis 2) layers))
 
@@ -64,10 +64,10 @@ unfoldable pub spread : {A : Type 0} → ℕ → (ℕ → List A) → List A
 spread zero f = []
 spread (suc k) f = spread k f ++ f k
 
-unfoldable pub crossingAt : Inside → ℕ → ℕ → Edge → List Edge
-crossingAt g n layers k = cond (inBox n layers k && crosses g k) (k ∷ []) []
+unfoldable pub crossing_at : Inside → ℕ → ℕ → Edge → List Edge
+crossing_at g n layers k = cond (in_box n layers k && crosses g k) (k ∷ []) []
 
 -- the grid edges of the box that the surface crosses, each once
 unfoldable pub crossings : Inside → ℕ → ℕ → List Edge
 crossings g n layers =
-    spread 3 (λ i. spread (layers + 1) (λ z. spread n (λ y. spread n (λ x. crossingAt g n layers (record { axis = i; x = x; y = y; z = z })))))
+    spread 3 (λ i. spread (layers + 1) (λ z. spread n (λ y. spread n (λ x. crossing_at g n layers (record { axis = i; x = x; y = y; z = z })))))

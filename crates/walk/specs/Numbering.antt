@@ -3,15 +3,15 @@
 use Rattle.std.specs.Prelude.{cond, List, [], ◌∷◌, ◌++◌, map, ℕ, zero, suc, length}
 use Rattle.walk.specs.Walk.{Visit, Hooks, Inside, walk}
 use Rattle.walk.specs.Edges.{Edge, edge_of, same}
-use Rattle.walk.specs.Cache.{Cache, put, get, advanceCell, advanceRow, advanceLayer}
+use Rattle.walk.specs.Cache.{Cache, put, get, advance_cell, advance_row, advance_layer}
 
 -- C is what is remembered; `look` answers one more than the number of the visit's vertex, or 0 where there is none; `note` is told the new number
 pub record Numbering (C : Type 0) : Type 0 where
   pub look : Visit → C → ℕ
   pub note : Visit → ℕ → C → C
-  pub cellEnd : C → C
-  pub rowEnd : C → C
-  pub layerEnd : C → C
+  pub cell_end : C → C
+  pub row_end : C → C
+  pub layer_end : C → C
 
 -- `made` are the visits that made the vertices, by number
 pub record Mesh (C : Type 0) : Type 0 where
@@ -34,9 +34,9 @@ module _ {C : Type 0} (m : Numbering C) where
   hooks =
       record {
         visit = λ v s. choose (m.look v s.memory) v s;
-        cellEnd = λ s. record { memory = m.cellEnd s.memory; made = s.made; indices = s.indices };
-        rowEnd = λ s. record { memory = m.rowEnd s.memory; made = s.made; indices = s.indices };
-        layerEnd = λ z s. record { memory = m.layerEnd s.memory; made = s.made; indices = s.indices };
+        cell_end = λ s. record { memory = m.cell_end s.memory; made = s.made; indices = s.indices };
+        row_end = λ s. record { memory = m.row_end s.memory; made = s.made; indices = s.indices };
+        layer_end = λ z s. record { memory = m.layer_end s.memory; made = s.made; indices = s.indices };
       }
 
   -- from the memory c, over a grid of size n with so many layers of cells
@@ -48,25 +48,25 @@ abbrev pub vertices : {C P : Type 0} → (Visit → P) → Mesh C → List P
 vertices position s = map position s.made
 
 -- one more, but absent stays absent
-abbrev pub oneMore : ℕ → ℕ
-oneMore zero = zero
-oneMore (suc i) = suc (suc i)
+abbrev pub one_more : ℕ → ℕ
+one_more zero = zero
+one_more (suc i) = suc (suc i)
 
 -- ---- joined: the grid edges met so far, in the order of their first visits
 
 -- one more than the first place of the edge k, or 0
 unfoldable pub number : Edge → List Edge → ℕ
 number k [] = 0
-number k (m ∷ ms) = cond (same k m) 1 (oneMore (number k ms))
+number k (m ∷ ms) = cond (same k m) 1 (one_more (number k ms))
 
 unfoldable pub joined : Numbering (List Edge)
 joined =
     record {
       look = λ v c. number (edge_of v) c;
       note = λ v i c. c ++ (edge_of v ∷ []);
-      cellEnd = λ c. c;
-      rowEnd = λ c. c;
-      layerEnd = λ c. c;
+      cell_end = λ c. c;
+      row_end = λ c. c;
+      layer_end = λ c. c;
     }
 
 -- ---- crate: the index cache; number 0 reads as absent
@@ -74,9 +74,9 @@ joined =
 unfoldable pub crate : ℕ → Numbering Cache
 crate n =
     record {
-      look = λ v c. oneMore (get n v.x v.y v.edge c);
+      look = λ v c. one_more (get n v.x v.y v.edge c);
       note = λ v i c. put n v.x v.y v.edge i c;
-      cellEnd = advanceCell;
-      rowEnd = advanceRow;
-      layerEnd = advanceLayer;
+      cell_end = advance_cell;
+      row_end = advance_row;
+      layer_end = advance_layer;
     }

@@ -8,6 +8,6 @@ owned x0 y0 z0 e =
     get_or ((y0 && z0) ∷ z0 ∷ z0 ∷ (x0 && z0) ∷ y0 ∷ true ∷ true ∷ x0 ∷ (x0 && y0) ∷ y0 ∷ true ∷ x0 ∷ []) e false
 
 -- the edges of a row that are new, each where the row first names it
-unfoldable pub newEdges : (ℕ → Bool) → List ℕ → List ℕ
-newEdges new [] = []
-newEdges new (e ∷ r) = cond (new e) (e ∷ newEdges (λ d. new d && not (eqb d e)) r) (newEdges new r)
+unfoldable pub new_edges : (ℕ → Bool) → List ℕ → List ℕ
+new_edges new [] = []
+new_edges new (e ∷ r) = cond (new e) (e ∷ new_edges (λ d. new d && not (eqb d e)) r) (new_edges new r)

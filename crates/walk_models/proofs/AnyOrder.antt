@@ -12,12 +12,12 @@ use Rattle.walk.proofs.OwnedCells.{fold}
 -- ---- pairs
 
 -- the edges of a list with their ranks, from the rank k on
-abbrev pub rankedFrom : ℕ → List ℕ → List ℕ
-rankedFrom k [] = []
-rankedFrom k (e ∷ es) = (e + 16 * k) ∷ rankedFrom (suc k) es
+abbrev pub ranked_from : ℕ → List ℕ → List ℕ
+ranked_from k [] = []
+ranked_from k (e ∷ es) = (e + 16 * k) ∷ ranked_from (suc k) es
 
 abbrev pub ranked : List ℕ → List ℕ
-ranked es = rankedFrom 0 es
+ranked es = ranked_from 0 es
 
 -- two edges of a cell that differ, and their ranks too
 abbrev pub apart : ℕ → ℕ → Bool
@@ -39,31 +39,31 @@ sorted (p ∷ ps) = insert p (sorted ps)
 -- ---- by any test of two pairs
 
 module _ (free : ℕ → ℕ → Bool) where
-  abbrev pub freeOf : ℕ → List ℕ → Bool
-  freeOf p [] = true
-  freeOf p (q ∷ qs) = free p q && freeOf p qs
+  abbrev pub free_of : ℕ → List ℕ → Bool
+  free_of p [] = true
+  free_of p (q ∷ qs) = free p q && free_of p qs
 
   -- each of those after it
-  abbrev pub allFree : List ℕ → Bool
-  allFree [] = true
-  allFree (p ∷ ps) = freeOf p ps && allFree ps
+  abbrev pub all_free : List ℕ → Bool
+  all_free [] = true
+  all_free (p ∷ ps) = free_of p ps && all_free ps
 
-  freeOf-placed : (b : Bool) (o p q : ℕ) (later qs : List ℕ) → T (free o p) → T (free o q) → T (freeOf o later) → T (freeOf o qs)
-      → T (freeOf o (placed b p q later qs))
-  freeOf-placed true o p q later qs hp hq hl hs = and_i (free o q) (freeOf o later) hq hl
-  freeOf-placed false o p q later qs hp hq hl hs = and_i (free o p) (free o q && freeOf o qs) hp (and_i (free o q) (freeOf o qs) hq hs)
+  free_of-placed : (b : Bool) (o p q : ℕ) (later qs : List ℕ) → T (free o p) → T (free o q) → T (free_of o later) → T (free_of o qs)
+      → T (free_of o (placed b p q later qs))
+  free_of-placed true o p q later qs hp hq hl hs = and_i (free o q) (free_of o later) hq hl
+  free_of-placed false o p q later qs hp hq hl hs = and_i (free o p) (free o q && free_of o qs) hp (and_i (free o q) (free_of o qs) hq hs)
 
-  freeOf-insert : (o p : ℕ) (qs : List ℕ) → T (free o p) → T (freeOf o qs) → T (freeOf o (insert p qs))
-  freeOf-insert o p [] h t = and_i (free o p) true h tt
-  freeOf-insert o p (q ∷ qs) h t =
-      let first = both_left (free o q) (freeOf o qs) t in
-      let rest = both_right (free o q) (freeOf o qs) t in
-      freeOf-placed (ltb (q % 16) (p % 16)) o p q (insert p qs) qs h first (freeOf-insert o p qs h rest) rest
+  free_of-insert : (o p : ℕ) (qs : List ℕ) → T (free o p) → T (free_of o qs) → T (free_of o (insert p qs))
+  free_of-insert o p [] h t = and_i (free o p) true h tt
+  free_of-insert o p (q ∷ qs) h t =
+      let first = both_left (free o q) (free_of o qs) t in
+      let rest = both_right (free o q) (free_of o qs) t in
+      free_of-placed (ltb (q % 16) (p % 16)) o p q (insert p qs) qs h first (free_of-insert o p qs h rest) rest
 
-  freeOf-sorted : (o : ℕ) (ps : List ℕ) → T (freeOf o ps) → T (freeOf o (sorted ps))
-  freeOf-sorted o [] t = tt
-  freeOf-sorted o (p ∷ ps) t =
-      freeOf-insert o p (sorted ps) (both_left (free o p) (freeOf o ps) t) (freeOf-sorted o ps (both_right (free o p) (freeOf o ps) t))
+  free_of-sorted : (o : ℕ) (ps : List ℕ) → T (free_of o ps) → T (free_of o (sorted ps))
+  free_of-sorted o [] t = tt
+  free_of-sorted o (p ∷ ps) t =
+      free_of-insert o p (sorted ps) (both_left (free o p) (free_of o ps) t) (free_of-sorted o ps (both_right (free o p) (free_of o ps) t))
 
   module _ {S : Type 0} (step : ℕ → S → S) (exchange : (p q : ℕ) (s : S) → T (free p q) → step p (step q s) ≡ step q (step p s)) where
     fold-placed : (b : Bool) (p q : ℕ) (later qs : List ℕ) (s : S) → fold step later (step q s) ≡ fold step qs (step q (step p s))
@@ -72,18 +72,18 @@ module _ (free : ℕ → ℕ → Bool) where
     fold-placed true p q later qs s h = h
     fold-placed false p q later qs s h = refl
 
-    fold-insert : (p : ℕ) (qs : List ℕ) (s : S) → T (freeOf p qs) → fold step (insert p qs) s ≡ fold step qs (step p s)
+    fold-insert : (p : ℕ) (qs : List ℕ) (s : S) → T (free_of p qs) → fold step (insert p qs) s ≡ fold step qs (step p s)
     unfolding fold
     fold-insert p [] s t = refl
     fold-insert p (q ∷ qs) s t =
         fold-placed (ltb (q % 16) (p % 16)) p q (insert p qs) qs s
-        (fold-insert p qs (step q s) (both_right (free p q) (freeOf p qs) t)
-        ∙ ap (fold step qs) (exchange p q s (both_left (free p q) (freeOf p qs) t)))
+        (fold-insert p qs (step q s) (both_right (free p q) (free_of p qs) t)
+        ∙ ap (fold step qs) (exchange p q s (both_left (free p q) (free_of p qs) t)))
 
     -- the order of the edges does as well
-    pub fold-sorted : (ps : List ℕ) (s : S) → T (allFree ps) → fold step (sorted ps) s ≡ fold step ps s
+    pub fold-sorted : (ps : List ℕ) (s : S) → T (all_free ps) → fold step (sorted ps) s ≡ fold step ps s
     unfolding fold
     fold-sorted [] s t = refl
     fold-sorted (p ∷ ps) s t =
-        fold-insert p (sorted ps) s (freeOf-sorted p ps (both_left (freeOf p ps) (allFree ps) t))
-        ∙ fold-sorted ps (step p s) (both_right (freeOf p ps) (allFree ps) t)
+        fold-insert p (sorted ps) s (free_of-sorted p ps (both_left (free_of p ps) (all_free ps) t))
+        ∙ fold-sorted ps (step p s) (both_right (free_of p ps) (all_free ps) t)

@@ -15,7 +15,7 @@ use borrow.Author.Tests.{eqb-true, eqb-false}
 use Rattle.walk.specs.Walk.{times}
 use Rattle.walk.specs.Cache.{stored}
 use Rattle.walk.proofs.Bools.{bool_cases}
-use Rattle.walk_models.specs.CacheMemory.{layerPlace, rowPlace, clearRow}
+use Rattle.walk_models.specs.CacheMemory.{layer_place, row_place, clear_row}
 
 -- ---- a store to one place of an array that lies in a longer list, seen at any place of that array
 
@@ -49,10 +49,10 @@ pub record Views (n : ℕ) (old work : List ℕ) (l r : ℕ) (layers0 layers1 ro
   pub r-le : r ≤ 1
   pub size : length work ≡ length old
   pub tail : drop (8 * (n * n) + 6 * n) work ≡ drop (8 * (n * n) + 6 * n) old
-  pub lay0 : (p d : ℕ) → p < n * n → d < 4 → get_or work (layerPlace l p d) 0 ≡ layers0 p d
-  pub lay1 : (p d : ℕ) → p < n * n → d < 4 → get_or work (layerPlace (1 - l) p d) 0 ≡ layers1 p d
-  pub row0 : (x d : ℕ) → x < n → d < 3 → get_or work (rowPlace n r x d) 0 ≡ rows0 x d
-  pub row1 : (x d : ℕ) → x < n → d < 3 → get_or work (rowPlace n (1 - r) x d) 0 ≡ rows1 x d
+  pub lay0 : (p d : ℕ) → p < n * n → d < 4 → get_or work (layer_place l p d) 0 ≡ layers0 p d
+  pub lay1 : (p d : ℕ) → p < n * n → d < 4 → get_or work (layer_place (1 - l) p d) 0 ≡ layers1 p d
+  pub row0 : (x d : ℕ) → x < n → d < 3 → get_or work (row_place n r x d) 0 ≡ rows0 x d
+  pub row1 : (x d : ℕ) → x < n → d < 3 → get_or work (row_place n (1 - r) x d) 0 ≡ rows1 x d
 
 other : (work : List ℕ) (i j v a : ℕ) → (j ≡ i → ⊥) → get_or work j 0 ≡ a → get_or (set work i v) j 0 ≡ a
 other work i j v a h e = get_or-set_other work i j v 0 h ∙ e
@@ -62,7 +62,7 @@ back b h = omega arith
 
 module _ (n : ℕ) (old : List ℕ) (room : 8 * (n * n) + 6 * n ≤ length old) where
   pub layer-store : (work : List ℕ) (l r : ℕ) (l0 l1 r0 r1 : ℕ → ℕ → ℕ) → Views n old work l r l0 l1 r0 r1 → (p d v : ℕ) → p < n * n → d < 4
-      → Views n old (set work (layerPlace (1 - l) p d) v) l r l0 (stored l1 p (stored (l1 p) d v)) r0 r1
+      → Views n old (set work (layer_place (1 - l) p d) v) l r l0 (stored l1 p (stored (l1 p) d v)) r0 r1
   layer-store work l r l0 l1 r0 r1 s p d v hp hd =
       let a = s.l_le in
       let b = s.r-le in
@@ -70,8 +70,8 @@ module _ (n : ℕ) (old : List ℕ) (room : 8 * (n * n) + 6 * n ≤ length old) 
       record {
         l_le = s.l_le;
         r-le = s.r-le;
-        size = length-set work (layerPlace (1 - l) p d) v ∙ c;
-        tail = drop-set-lt (8 * (n * n) + 6 * n) work (layerPlace (1 - l) p d) v (omega arith) ∙ s.tail;
+        size = length-set work (layer_place (1 - l) p d) v ∙ c;
+        tail = drop-set-lt (8 * (n * n) + 6 * n) work (layer_place (1 - l) p d) v (omega arith) ∙ s.tail;
         lay0 = λ q e hq he. other work _ _ v _ (λ k. omega arith) (s.lay0 q e hq he);
         lay1 = λ q e hq he. plane-set work l1 _ _ q e p d v (omega arith) (λ k. omega arith) (λ i j. omega arith) (s.lay1 q e hq he);
         row0 = λ q e hq he. other work _ _ v _ (λ k. omega arith) (s.row0 q e hq he);
@@ -79,7 +79,7 @@ module _ (n : ℕ) (old : List ℕ) (room : 8 * (n * n) + 6 * n ≤ length old) 
       }
 
   pub row-store : (work : List ℕ) (l r : ℕ) (l0 l1 r0 r1 : ℕ → ℕ → ℕ) → Views n old work l r l0 l1 r0 r1 → (x d v : ℕ) → x < n → d < 3
-      → Views n old (set work (rowPlace n (1 - r) x d) v) l r l0 l1 r0 (stored r1 x (stored (r1 x) d v))
+      → Views n old (set work (row_place n (1 - r) x d) v) l r l0 l1 r0 (stored r1 x (stored (r1 x) d v))
   row-store work l r l0 l1 r0 r1 s x d v hx hd =
       let a = s.l_le in
       let b = s.r-le in
@@ -87,8 +87,8 @@ module _ (n : ℕ) (old : List ℕ) (room : 8 * (n * n) + 6 * n ≤ length old) 
       record {
         l_le = s.l_le;
         r-le = s.r-le;
-        size = length-set work (rowPlace n (1 - r) x d) v ∙ c;
-        tail = drop-set-lt (8 * (n * n) + 6 * n) work (rowPlace n (1 - r) x d) v (omega arith) ∙ s.tail;
+        size = length-set work (row_place n (1 - r) x d) v ∙ c;
+        tail = drop-set-lt (8 * (n * n) + 6 * n) work (row_place n (1 - r) x d) v (omega arith) ∙ s.tail;
         lay0 = λ q e hq he. other work _ _ v _ (λ k. omega arith) (s.lay0 q e hq he);
         lay1 = λ q e hq he. other work _ _ v _ (λ k. omega arith) (s.lay1 q e hq he);
         row0 = λ q e hq he. other work _ _ v _ (λ k. omega arith) (s.row0 q e hq he);
@@ -131,34 +131,34 @@ module _ (n : ℕ) (old : List ℕ) (room : 8 * (n * n) + 6 * n ≤ length old) 
   set-zero (a ∷ l) (suc i) zero h = h
   set-zero (a ∷ l) (suc i) (suc j) h = set-zero l i j h
 
-  clear-size : (r k : ℕ) (w : List ℕ) → length (clearRow n r k w) ≡ length w
-  unfolding clearRow times
+  clear-size : (r k : ℕ) (w : List ℕ) → length (clear_row n r k w) ≡ length w
+  unfolding clear_row times
   clear-size r zero w = refl
   clear-size r (suc k) w = simp length-set (clear-size r k w)
 
-  clear-tail : (r k : ℕ) (w : List ℕ) → r ≤ 1 → k ≤ n → drop (8 * (n * n) + 6 * n) (clearRow n r k w) ≡ drop (8 * (n * n) + 6 * n) w
-  unfolding clearRow times
+  clear-tail : (r k : ℕ) (w : List ℕ) → r ≤ 1 → k ≤ n → drop (8 * (n * n) + 6 * n) (clear_row n r k w) ≡ drop (8 * (n * n) + 6 * n) w
+  unfolding clear_row times
   clear-tail r zero w hr hk = refl
   clear-tail r (suc k) w hr hk =
-      let m : List ℕ = clearRow n r k w in
-      let m0 : List ℕ = set m (rowPlace n r k 0) 0 in
-      let m1 : List ℕ = set m0 (rowPlace n r k 1) 0 in
-      drop-set-lt (8 * (n * n) + 6 * n) m1 (rowPlace n r k 2) 0 (omega arith)
-      ∙ drop-set-lt (8 * (n * n) + 6 * n) m0 (rowPlace n r k 1) 0 (omega arith)
-      ∙ drop-set-lt (8 * (n * n) + 6 * n) m (rowPlace n r k 0) 0 (omega arith)
+      let m : List ℕ = clear_row n r k w in
+      let m0 : List ℕ = set m (row_place n r k 0) 0 in
+      let m1 : List ℕ = set m0 (row_place n r k 1) 0 in
+      drop-set-lt (8 * (n * n) + 6 * n) m1 (row_place n r k 2) 0 (omega arith)
+      ∙ drop-set-lt (8 * (n * n) + 6 * n) m0 (row_place n r k 1) 0 (omega arith)
+      ∙ drop-set-lt (8 * (n * n) + 6 * n) m (row_place n r k 0) 0 (omega arith)
       ∙ clear-tail r k w hr (omega arith)
 
-  clear-other : (r k : ℕ) (w : List ℕ) (i : ℕ) → ((x d : ℕ) → x < k → d < 3 → i ≡ rowPlace n r x d → ⊥)
-      → get_or (clearRow n r k w) i 0 ≡ get_or w i 0
-  unfolding clearRow times
+  clear-other : (r k : ℕ) (w : List ℕ) (i : ℕ) → ((x d : ℕ) → x < k → d < 3 → i ≡ row_place n r x d → ⊥)
+      → get_or (clear_row n r k w) i 0 ≡ get_or w i 0
+  unfolding clear_row times
   clear-other r zero w i h = refl
   clear-other r (suc k) w i h =
-      let m : List ℕ = clearRow n r k w in
-      let m0 : List ℕ = set m (rowPlace n r k 0) 0 in
-      let m1 : List ℕ = set m0 (rowPlace n r k 1) 0 in
-      get_or-set_other m1 (rowPlace n r k 2) i 0 0 (h k 2 (omega arith) (omega arith))
-      ∙ get_or-set_other m0 (rowPlace n r k 1) i 0 0 (h k 1 (omega arith) (omega arith))
-      ∙ get_or-set_other m (rowPlace n r k 0) i 0 0 (h k 0 (omega arith) (omega arith))
+      let m : List ℕ = clear_row n r k w in
+      let m0 : List ℕ = set m (row_place n r k 0) 0 in
+      let m1 : List ℕ = set m0 (row_place n r k 1) 0 in
+      get_or-set_other m1 (row_place n r k 2) i 0 0 (h k 2 (omega arith) (omega arith))
+      ∙ get_or-set_other m0 (row_place n r k 1) i 0 0 (h k 1 (omega arith) (omega arith))
+      ∙ get_or-set_other m (row_place n r k 0) i 0 0 (h k 0 (omega arith) (omega arith))
       ∙ clear-other r k w i (λ x d a b. h x d (omega arith) b)
 
   three : (d : ℕ) → d < 3 → (d ≡ 0) ⊎ ((d ≡ 1) ⊎ (d ≡ 2))
@@ -167,35 +167,35 @@ module _ (n : ℕ) (old : List ℕ) (room : 8 * (n * n) + 6 * n ≤ length old) 
   three (suc (suc d)) h = inr (inr (omega arith))
 
   clear_zero : (r k : ℕ) (w : List ℕ) (x d : ℕ) → 8 * (n * n) + 6 * k ≤ length w → r ≤ 1 → x < k → d < 3
-      → get_or (clearRow n r k w) (rowPlace n r x d) 0 ≡ 0
-  unfolding clearRow times
+      → get_or (clear_row n r k w) (row_place n r x d) 0 ≡ 0
+  unfolding clear_row times
   clear_zero r zero w x d l b h c = absurd (not-suc-le-zero h)
   clear_zero r (suc k) w x d l b h c =
-      let m : List ℕ = clearRow n r k w in
+      let m : List ℕ = clear_row n r k w in
       let ml : length m ≡ length w = clear-size r k w in
-      let m0 : List ℕ = set m (rowPlace n r k 0) 0 in
+      let m0 : List ℕ = set m (row_place n r k 0) 0 in
       let l0 : length m0 ≡ length w = simp length-set ml in
-      let m1 : List ℕ = set m0 (rowPlace n r k 1) 0 in
+      let m1 : List ℕ = set m0 (row_place n r k 1) 0 in
       let l1 : length m1 ≡ length w = simp length-set ml in
       elim (dec_lt x k) [
         | yes q ↦
-            set-zero m1 (rowPlace n r x d) (rowPlace n r k 2)
-            (set-zero m0 (rowPlace n r x d) (rowPlace n r k 1) (set-zero m (rowPlace n r x d) (rowPlace n r k 0) (clear_zero r k w x d (omega arith) b q c)))
+            set-zero m1 (row_place n r x d) (row_place n r k 2)
+            (set-zero m0 (row_place n r x d) (row_place n r k 1) (set-zero m (row_place n r x d) (row_place n r k 0) (clear_zero r k w x d (omega arith) b q c)))
         | no q ↦
             let e : x ≡ k = omega arith in
             ⊎_elim
             (λ (t : d ≡ 0).
-            rw (e, t) (set-zero m1 (rowPlace n r k 0) (rowPlace n r k 2) (set-zero m0 (rowPlace n r k 0) (rowPlace n r k 1) (get_or-set_same m (rowPlace n r k 0) 0 0 (omega arith)))))
+            rw (e, t) (set-zero m1 (row_place n r k 0) (row_place n r k 2) (set-zero m0 (row_place n r k 0) (row_place n r k 1) (get_or-set_same m (row_place n r k 0) 0 0 (omega arith)))))
             (λ (u : (d ≡ 1) ⊎ (d ≡ 2)).
             ⊎_elim
-            (λ (t : d ≡ 1). rw (e, t) (set-zero m1 (rowPlace n r k 1) (rowPlace n r k 2) (get_or-set_same m0 (rowPlace n r k 1) 0 0 (omega arith))))
-            (λ (t : d ≡ 2). rw (e, t) (get_or-set_same m1 (rowPlace n r k 2) 0 0 (omega arith)))
+            (λ (t : d ≡ 1). rw (e, t) (set-zero m1 (row_place n r k 1) (row_place n r k 2) (get_or-set_same m0 (row_place n r k 1) 0 0 (omega arith))))
+            (λ (t : d ≡ 2). rw (e, t) (get_or-set_same m1 (row_place n r k 2) 0 0 (omega arith)))
             u)
             (three d c)
       ]
 
   pub row-cleared : (w : List ℕ) (l r : ℕ) (l0 l1 r0 r1 : ℕ → ℕ → ℕ) → Views n old w l r l0 l1 r0 r1
-      → Views n old (clearRow n r n w) l r l0 l1 (λ x d. 0) r1
+      → Views n old (clear_row n r n w) l r l0 l1 (λ x d. 0) r1
   row-cleared w l r l0 l1 r0 r1 s =
       let a = s.l_le in
       let b = s.r-le in

@@ -15,11 +15,11 @@ use Rattle.walk.specs.Walk.{Inside, times}
 use Rattle.walk.specs.Edges.{Edge, edge_of, reach, crosses, same, has}
 use Rattle.walk.specs.Numbering.{Mesh, number}
 use Rattle.walk.proofs.Bools.{bool_cases, and_right, or_split}
-use Rattle.walk.proofs.TwelveEdges.{cellEdge}
+use Rattle.walk.proofs.TwelveEdges.{cell_edge}
 use Rattle.walk.proofs.GridEdges.{visit_at, edge-ext, same_true, same_of, InBox}
 use Rattle.walk.proofs.FirstUse.{has-snoc, number-snoc-same, number-snoc-other, number-pos}
 use Rattle.walk.proofs.Rank.{rank, rank_mono, place-injective, place-lt}
-use Rattle.walk.proofs.Home.{homeX, homeY, homeZ, home}
+use Rattle.walk.proofs.Home.{home_x, home_y, home_z, home}
 use Rattle.walk.proofs.Ownership.{Met, met, named}
 use Rattle.walk_models.specs.Owned.{word_of, slot}
 
@@ -31,10 +31,10 @@ pub record Live (n z : ℕ) (k : Edge) : Type 0 where
   pub high : k.z + reach k.axis 2 ≤ z + 1
 
 -- the edges of the cells of layer z are live
-pub edgeOf-live : (n x y z e : ℕ) → x < n - 1 → y < n - 1 → e < 12 → Live n z (edge_of (visit_at x y z e))
+pub edge_of-live : (n x y z e : ℕ) → x < n - 1 → y < n - 1 → e < 12 → Live n z (edge_of (visit_at x y z e))
 unfolding edge_of
-edgeOf-live n x y z e hx hy he =
-    let c = cellEdge e he in
+edge_of-live n x y z e hx hy he =
+    let c = cell_edge e he in
     let a = c.high_le 0 (omega arith) in
     let b = c.high_le 1 (omega arith) in
     let d = c.high_le 2 (omega arith) in
@@ -133,9 +133,9 @@ still-live g n z k h a =
     let lt : home m k < r = ltb-true (home m k) r u in
     let lo = a.low in
     let hi = a.high in
-    elim (dec_lt (homeZ k) (suc z)) [
+    elim (dec_lt (home_z k) (suc z)) [
       | yes p ↦ record { x_lt = a.x_lt; y-lt = a.y-lt; axis-lt = a.axis-lt; low = omega arith; high = omega arith }
-      | no p ↦ absurd (let q = rank_mono m (homeX k) (homeY k) (homeZ k) 0 0 (suc z) (omega arith) (omega arith) (omega arith) in omega arith)
+      | no p ↦ absurd (let q = rank_mono m (home_x k) (home_y k) (home_z k) 0 0 (suc z) (omega arith) (omega arith) (omega arith) in omega arith)
     ]
 
 pub window-start : (n layers z : ℕ) (old : List ℕ) → Window n layers z old [] old

@@ -18,8 +18,8 @@ untouched d b l = record { memory = d; vertices = b; indices = l; made = 0; writ
 
 -- `store v i` stores the vertex of the visit v as number i
 module _ {D B : Type 0} (d : Numbering D) (store : Visit → ℕ → B → B) where
-  unfoldable pub chooseLent : ℕ → Visit → Lent D B → Lent D B
-  chooseLent zero v w =
+  unfoldable pub choose_lent : ℕ → Visit → Lent D B → Lent D B
+  choose_lent zero v w =
       record {
         memory = d.note v w.made w.memory;
         vertices = store v w.made w.vertices;
@@ -27,19 +27,19 @@ module _ {D B : Type 0} (d : Numbering D) (store : Visit → ℕ → B → B) wh
         made = w.made + 1;
         written = w.written + 1;
       }
-  chooseLent (suc i) v w =
+  choose_lent (suc i) v w =
       record { memory = w.memory; vertices = w.vertices; indices = set w.indices w.written i; made = w.made; written = w.written + 1 }
 
-  unfoldable pub lentHooks : Hooks (Lent D B)
-  lentHooks =
+  unfoldable pub lent_hooks : Hooks (Lent D B)
+  lent_hooks =
       record {
-        visit = λ v w. chooseLent (d.look v w.memory) v w;
-        cellEnd = λ w. record { memory = d.cellEnd w.memory; vertices = w.vertices; indices = w.indices; made = w.made; written = w.written };
-        rowEnd = λ w. record { memory = d.rowEnd w.memory; vertices = w.vertices; indices = w.indices; made = w.made; written = w.written };
-        layerEnd = λ z w. record { memory = d.layerEnd w.memory; vertices = w.vertices; indices = w.indices; made = w.made; written = w.written };
+        visit = λ v w. choose_lent (d.look v w.memory) v w;
+        cell_end = λ w. record { memory = d.cell_end w.memory; vertices = w.vertices; indices = w.indices; made = w.made; written = w.written };
+        row_end = λ w. record { memory = d.row_end w.memory; vertices = w.vertices; indices = w.indices; made = w.made; written = w.written };
+        layer_end = λ z w. record { memory = d.layer_end w.memory; vertices = w.vertices; indices = w.indices; made = w.made; written = w.written };
       }
 
 -- the vertices of a list of visits, stored from number i on
-unfoldable pub storeAll : {B : Type 0} → (Visit → ℕ → B → B) → ℕ → List Visit → B → B
-storeAll store i [] b = b
-storeAll store i (v ∷ vs) b = storeAll store (suc i) vs (store v i b)
+unfoldable pub store_all : {B : Type 0} → (Visit → ℕ → B → B) → ℕ → List Visit → B → B
+store_all store i [] b = b
+store_all store i (v ∷ vs) b = store_all store (suc i) vs (store v i b)

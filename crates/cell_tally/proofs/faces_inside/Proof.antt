@@ -4,9 +4,9 @@ use Prim.Native.Nat.{ℕ, ◌+◌}
 use native.Mathlib.Omega.{arith}
 use Rattle.cell_tally.proofs.SetBits.{and_set}
 use Rattle.walk.specs.Walk.{bit}
-use Rattle.corner_signs.specs.Signs.{four, facesAt}
+use Rattle.corner_signs.specs.Signs.{four, faces_at}
 use Rattle.cell_tally.specs.declared.Corners.{Corners}
-use Rattle.cell_tally.specs.Tally.{is_set, inMask, setIn, ofSigns}
+use Rattle.cell_tally.specs.Tally.{is_set, in_mask, set_in, of_signs}
 use Rattle.cell_tally.proofs.Tallies.{Comes, comes-plus, comes-set}
 use lib.Bits.{bit_and}
 use borrow.Author.Rules.{rules}
@@ -14,15 +14,15 @@ use Rattle.cell_tally.proofs.faces_inside.Statement.{statement}
 use Rattle.cell_tally.proofs.faces_inside.Tie as tie
 
 -- over plain variables: among the records of the walk `simp` is dear
-face : {mask a : ℕ} (p q r s : ℕ) → a ≡ setIn (bit_and (bit_and (bit_and p q) r) s) mask
+face : {mask a : ℕ} (p q r s : ℕ) → a ≡ set_in (bit_and (bit_and (bit_and p q) r) s) mask
     → Comes mask (λ i. bit (four (is_set p i) (is_set q i) (is_set r i) (is_set s i))) a
 face p q r s e = comes-set (bit_and (bit_and (bit_and p q) r) s) (λ i. four (is_set p i) (is_set q i) (is_set r i) (is_set s i)) e (λ i. simp and_set)
 
 faces : (k : Corners) (mask z₀ z₁ y₀ y₁ x₀ x₁ : ℕ)
-    → z₀ ≡ setIn (bit_and (bit_and (bit_and k.c0 k.c1) k.c2) k.c3) mask → z₁ ≡ setIn (bit_and (bit_and (bit_and k.c4 k.c5) k.c6) k.c7) mask
-    → y₀ ≡ setIn (bit_and (bit_and (bit_and k.c0 k.c1) k.c4) k.c5) mask → y₁ ≡ setIn (bit_and (bit_and (bit_and k.c2 k.c3) k.c6) k.c7) mask
-    → x₀ ≡ setIn (bit_and (bit_and (bit_and k.c0 k.c3) k.c4) k.c7) mask → x₁ ≡ setIn (bit_and (bit_and (bit_and k.c1 k.c2) k.c5) k.c6) mask
-    → z₀ + z₁ + (y₀ + y₁) + (x₀ + x₁) ≡ inMask mask (ofSigns facesAt k)
+    → z₀ ≡ set_in (bit_and (bit_and (bit_and k.c0 k.c1) k.c2) k.c3) mask → z₁ ≡ set_in (bit_and (bit_and (bit_and k.c4 k.c5) k.c6) k.c7) mask
+    → y₀ ≡ set_in (bit_and (bit_and (bit_and k.c0 k.c1) k.c4) k.c5) mask → y₁ ≡ set_in (bit_and (bit_and (bit_and k.c2 k.c3) k.c6) k.c7) mask
+    → x₀ ≡ set_in (bit_and (bit_and (bit_and k.c0 k.c3) k.c4) k.c7) mask → x₁ ≡ set_in (bit_and (bit_and (bit_and k.c1 k.c2) k.c5) k.c6) mask
+    → z₀ + z₁ + (y₀ + y₁) + (x₀ + x₁) ≡ in_mask mask (of_signs faces_at k)
 faces k mask z₀ z₁ y₀ y₁ x₀ x₁ e₁ e₂ e₃ e₄ e₅ e₆ =
     (comes-plus
     (comes-plus

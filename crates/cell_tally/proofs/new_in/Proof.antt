@@ -7,7 +7,7 @@ use Rattle.cell_tally.proofs.SetBits.{and_set, xor-set}
 use Rattle.walk.specs.Walk.{bit}
 use Rattle.corner_signs.specs.Signs.{differ}
 use Rattle.cell_tally.specs.declared.Corners.{Corners}
-use Rattle.cell_tally.specs.Tally.{is_set, setIn, newIn}
+use Rattle.cell_tally.specs.Tally.{is_set, set_in, new_in}
 use Rattle.cell_tally.proofs.Tallies.{Comes, comes-plus, comes-set, new-comes}
 use lib.Bits.{bit_and, bit_xor}
 use borrow.Author.Rules.{rules}
@@ -15,23 +15,23 @@ use Rattle.cell_tally.proofs.new_in.Statement.{statement}
 use Rattle.cell_tally.proofs.new_in.Tie as tie
 
 -- over plain variables: among the records of the walk `simp` is dear
-anywhere : {mask a : ℕ} (p q : ℕ) → a ≡ setIn (bit_xor p q) mask → Comes mask (λ i. bit (differ (is_set p i) (is_set q i))) a
+anywhere : {mask a : ℕ} (p q : ℕ) → a ≡ set_in (bit_xor p q) mask → Comes mask (λ i. bit (differ (is_set p i) (is_set q i))) a
 anywhere p q e = comes-set (bit_xor p q) (λ i. differ (is_set p i) (is_set q i)) e (λ i. xor-set p q i)
 
-within : {mask a : ℕ} (p q w : ℕ) → a ≡ setIn (bit_and (bit_xor p q) w) mask → Comes mask (λ i. bit (differ (is_set p i) (is_set q i) && is_set w i)) a
+within : {mask a : ℕ} (p q w : ℕ) → a ≡ set_in (bit_and (bit_xor p q) w) mask → Comes mask (λ i. bit (differ (is_set p i) (is_set q i) && is_set w i)) a
 within p q w e = comes-set (bit_and (bit_xor p q) w) (λ i. differ (is_set p i) (is_set q i) && is_set w i) e (λ i. simp (and_set, xor-set))
 
-within_both : {mask a : ℕ} (p q v w : ℕ) → a ≡ setIn (bit_and (bit_and (bit_xor p q) v) w) mask
+within_both : {mask a : ℕ} (p q v w : ℕ) → a ≡ set_in (bit_and (bit_and (bit_xor p q) v) w) mask
     → Comes mask (λ i. bit ((differ (is_set p i) (is_set q i) && is_set v i) && is_set w i)) a
 within_both p q v w e =
     comes-set (bit_and (bit_and (bit_xor p q) v) w) (λ i. (differ (is_set p i) (is_set q i) && is_set v i) && is_set w i) e (λ i. simp (and_set, xor-set))
 
 new-edges : (k : Corners) (mask first top a₁ a₂ a₃ a₄ a₅ a₆ a₇ a₈ : ℕ)
-    → a₁ ≡ setIn (bit_xor k.c5 k.c6) mask → a₂ ≡ setIn (bit_xor k.c6 k.c7) mask → a₃ ≡ setIn (bit_xor k.c2 k.c6) mask
-    → a₄ ≡ setIn (bit_and (bit_xor k.c4 k.c7) first) mask → a₅ ≡ setIn (bit_and (bit_xor k.c3 k.c7) first) mask
-    → a₆ ≡ setIn (bit_and (bit_xor k.c4 k.c5) top) mask → a₇ ≡ setIn (bit_and (bit_xor k.c1 k.c5) top) mask
-    → a₈ ≡ setIn (bit_and (bit_and (bit_xor k.c0 k.c4) first) top) mask
-    → a₁ + a₂ + a₃ + (a₄ + a₅) + (a₆ + a₇) + a₈ ≡ newIn k mask first top
+    → a₁ ≡ set_in (bit_xor k.c5 k.c6) mask → a₂ ≡ set_in (bit_xor k.c6 k.c7) mask → a₃ ≡ set_in (bit_xor k.c2 k.c6) mask
+    → a₄ ≡ set_in (bit_and (bit_xor k.c4 k.c7) first) mask → a₅ ≡ set_in (bit_and (bit_xor k.c3 k.c7) first) mask
+    → a₆ ≡ set_in (bit_and (bit_xor k.c4 k.c5) top) mask → a₇ ≡ set_in (bit_and (bit_xor k.c1 k.c5) top) mask
+    → a₈ ≡ set_in (bit_and (bit_and (bit_xor k.c0 k.c4) first) top) mask
+    → a₁ + a₂ + a₃ + (a₄ + a₅) + (a₆ + a₇) + a₈ ≡ new_in k mask first top
 new-edges k mask first top a₁ a₂ a₃ a₄ a₅ a₆ a₇ a₈ e₁ e₂ e₃ e₄ e₅ e₆ e₇ e₈ =
     (comes-plus
     (comes-plus

@@ -6,8 +6,8 @@ use lib.ListN.{get_or}
 use borrow.Author.Rules.{rules}
 use borrow.Author.Tests.{ltb-true}
 use Rattle.walk.proofs.Bools.{and_left, and_right}
-use Rattle.packed_tables.proofs.Words.{inThrees}
-use Rattle.lent_mesh.specs.Grid.{insideOf}
+use Rattle.packed_tables.proofs.Words.{in_threes}
+use Rattle.lent_mesh.specs.Grid.{inside_of}
 use Rattle.crate_cells.proofs.RowEdges.{case-lt, row-edges, row-edges-all, row_count}
 use Rattle.regular_cells.proofs.RegularTest.{regular-of}
 use Rattle.crate_cells.proofs.HeldCell.{held-cell}
@@ -111,10 +111,10 @@ returns c =
     let given = start.requires.1.1.0 in
     let room = start.requires.1.0 in
     let rows = args.rows.now in
-    let inside = insideOf args.n args.samples.now in
+    let inside = inside_of args.n args.samples.now in
     let grown = visited.regular-visits.ensures.1 in (
       held-cell args.n args.x args.y args.layer args.row (omega (arith, start.requires.0.in-x)) (omega (arith, start.requires.0.in-y)) room.layer-le room.row-le
-          args.samples.now args.z inside (inThrees (get_or rows args.case 0)) args.work.now found.found.result args.vertices.now args.indices.now args.counts _ _ _ _ _
+          args.samples.now args.z inside (in_threes (get_or rows args.case 0)) args.work.now found.found.result args.vertices.now args.indices.now args.counts _ _ _ _ _
           (row-edges inside args.x args.y args.z args.case given.3 rows given.0)
           (row-edges-all inside args.x args.y args.z args.case given.3 rows given.0) found.found.ensures visited.regular-visits.ensures.0,
       (omega (arith, grown.0, row_count inside args.x args.y args.z args.case given.3 rows given.0), grown.1),
@@ -129,10 +129,10 @@ returns-2 c =
     let given = start.requires.1.1.0 in
     let room = start.requires.1.0 in
     let rows = args.rows.now in
-    let inside = insideOf args.n args.samples.now in
+    let inside = inside_of args.n args.samples.now in
     let grown = visited.visit-all.ensures.1 in (
       held-cell args.n args.x args.y args.layer args.row (omega (arith, start.requires.0.in-x)) (omega (arith, start.requires.0.in-y)) room.layer-le room.row-le
-          args.samples.now args.z inside (inThrees (get_or rows args.case 0)) args.work.now found.found.result args.vertices.now args.indices.now args.counts _ _ _ _ _
+          args.samples.now args.z inside (in_threes (get_or rows args.case 0)) args.work.now found.found.result args.vertices.now args.indices.now args.counts _ _ _ _ _
           (row-edges inside args.x args.y args.z args.case given.3 rows given.0)
           (row-edges-all inside args.x args.y args.z args.case given.3 rows given.0) found.found.ensures visited.visit-all.ensures.0,
       (omega (arith, grown.0, row_count inside args.x args.y args.z args.case given.3 rows given.0), grown.1),

@@ -2,7 +2,7 @@
 use mathlib.Core.Path.{◌≡◌, sym, ap, ◌∙◌}
 use lib.Ieee.{of_bits}
 use borrow.Author.Rules.{rules}
-use Rattle.edge_answer.specs.Edge.{edgeAnswer}
+use Rattle.edge_answer.specs.Edge.{edge_answer}
 use Rattle.edge_answer.proofs.edge_answer.Statement.{statement}
 use Rattle.edge_answer.proofs.edge_answer.Tie as tie
 
@@ -20,15 +20,15 @@ enum-known-crossing-2 c = search rules
 
 returns : tie.Need-returns
 unfolding of_bits
-returns c = sym (ap edgeAnswer (sym c.before.before.Crossing-on.ensures ∙ c.enum_told.given.1))
+returns c = sym (ap edge_answer (sym c.before.before.Crossing-on.ensures ∙ c.enum_told.given.1))
 
 returns-2 : tie.Need-returns-2
 unfolding of_bits
-returns-2 c = sym (ap edgeAnswer (sym c.before.before.before.Crossing-on.ensures ∙ c.before.crossing.given.1))
+returns-2 c = sym (ap edge_answer (sym c.before.before.before.Crossing-on.ensures ∙ c.before.crossing.given.1))
 
 returns-3 : tie.Need-returns-3
 unfolding of_bits
-returns-3 c = sym (ap edgeAnswer (sym c.before.before.before.Crossing-on.ensures ∙ c.before.crossing2.given.1))
+returns-3 c = sym (ap edge_answer (sym c.before.before.before.Crossing-on.ensures ∙ c.before.crossing2.given.1))
 
 pub edge-answer-spec : {M : Type 1} → statement M
 edge-answer-spec =

@@ -6,18 +6,18 @@ use native.Mathlib.Omega.{arith}
 use lib.ListN.{length}
 use borrow.Author.Rules.{rules}
 use Rattle.walk.specs.Walk.{times}
-use Rattle.walk_models.specs.Owned.{cellsOfLayer}
-use Rattle.lent_mesh.specs.Grid.{insideOf}
+use Rattle.walk_models.specs.Owned.{cells_of_layer}
+use Rattle.lent_mesh.specs.Grid.{inside_of}
 use Rattle.sign_words.specs.Words.{LayerWords}
 use Rattle.sign_words.proofs.RowWords.{planes-le}
 use Rattle.sign_cells.proofs.Turns.{Reached, reached-none, reached-next, reached-all}
-use Rattle.row_walk.specs.Steps.{rowParity}
+use Rattle.row_walk.specs.Steps.{row_parity}
 use Rattle.grid_walk.specs.Growth.{GrowsWithin}
 use Rattle.row_walk.proofs.OneCell.{parity-le}
 use Rattle.grid_walk.proofs.Layers.{parity-layer}
 use Rattle.held_bits.specs.HeldCell.{Held, held}
-use Rattle.row_count.specs.Steps.{countIn, countStep}
-use Rattle.grid_count.specs.Steps.{endStep, countSteps}
+use Rattle.row_count.specs.Steps.{count_in, count_step}
+use Rattle.grid_count.specs.Steps.{end_step, count_steps}
 use Rattle.grid_count.proofs.CountLayer.{layer-done}
 use Rattle.grid_count.proofs.Spans.{span_none}
 use Rattle.grid_count.proofs.count_grid.Statement.{statement}
@@ -25,9 +25,9 @@ use Rattle.grid_count.proofs.count_grid.Tie as tie
 
 abbrev invariant-loop : tie.invariant-loop
 invariant-loop numbering samples n work₀ news names masks firsts low₀ high₀ reached₀ span₀ row₀ z₀ work low high reached span row z =
-    Reached countIn (λ j t. endStep numbering n (insideOf n samples) j (cellsOfLayer (countStep numbering n (insideOf n samples)) n j (n - 1) t)) (held work₀ reached₀) (held work reached) z (243840 * z)
-    × (z ≤ n) × (row ≡ rowParity n z 0) × LayerWords n samples z low × (length work ≡ length work₀)
-    × GrowsWithin (λ k. (times k (λ j t. endStep numbering n (insideOf n samples) j (cellsOfLayer (countStep numbering n (insideOf n samples)) n j (n - 1) t)) (held work₀ reached₀)).written) z span
+    Reached count_in (λ j t. end_step numbering n (inside_of n samples) j (cells_of_layer (count_step numbering n (inside_of n samples)) n j (n - 1) t)) (held work₀ reached₀) (held work reached) z (243840 * z)
+    × (z ≤ n) × (row ≡ row_parity n z 0) × LayerWords n samples z low × (length work ≡ length work₀)
+    × GrowsWithin (λ k. (times k (λ j t. end_step numbering n (inside_of n samples) j (cells_of_layer (count_step numbering n (inside_of n samples)) n j (n - 1) t)) (held work₀ reached₀)).written) z span
 
 abbrev decreases-loop : tie.decreases-loop
 decreases-loop numbering samples n work₀ news names masks firsts low₀ high₀ reached₀ span₀ row₀ z₀ work low high reached span row z =
@@ -53,7 +53,7 @@ fill-layer-requires c κs =
 loop-holds : tie.Need-loop-init invariant-loop decreases-loop
 unfolding times
 loop-holds c =
-    (reached-none countIn _ _ 243840 zero-le, zero-le, ap (λ (k : ℕ). (k + 0) % 2) (sym (zero-mul _)), c.fill-layer.ensures, refl, span_none _ refl)
+    (reached-none count_in _ _ 243840 zero-le, zero-le, ap (λ (k : ℕ). (k + 0) % 2) (sym (zero-mul _)), c.fill-layer.ensures, refl, span_none _ refl)
 
 add-fill-layer : tie.Need-overflow-add-fill-layer invariant-loop decreases-loop
 add-fill-layer c = omega (arith, c.loop-test.true, c.before.before.before.before.before.before.before.before.before.before.requires.1)
@@ -120,8 +120,8 @@ loop-again c =
     let args = turn.before.before.before.before.before.before.before.before.before.args in
     let here = held loop.work loop.reached in
     let parity = parity-layer args.n loop.z loop.row at.2 in
-    let done = layer-done args.numbering args.n (insideOf args.n args.samples.now) loop.z _ _ _ called.count-layer.result here parity called.count-layer.ensures.0 ended.end-layer.ensures in
-    let next = reached-next countIn _ _ 243840 loop.z here _ at.0 done called.count-layer.ensures.1.0 called.count-layer.ensures.1.1 in (
+    let done = layer-done args.numbering args.n (inside_of args.n args.samples.now) loop.z _ _ _ called.count-layer.result here parity called.count-layer.ensures.0 ended.end-layer.ensures in
+    let next = reached-next count_in _ _ 243840 loop.z here _ at.0 done called.count-layer.ensures.1.0 called.count-layer.ensures.1.1 in (
       next,
       omega (arith, filled.before.before.loop-test.true),
       parity,
@@ -134,14 +134,14 @@ same_length : tie.Need-same-length invariant-loop decreases-loop
 same_length c = search rules
 
 returns : tie.Need-returns invariant-loop decreases-loop
-unfolding countSteps
+unfolding count_steps
 returns c =
     let start = c.before.before.before.before.before.before.before.before.before.before in
     let most = start.requires.1 in
     let at = c.before.loop.invariant.0 in
     let grown = at.grown in
     let all : c.before.loop.z ≡ start.args.n = omega (arith, c.loop-test.false, c.before.loop.invariant.1) in
-    (reached-all countIn _ _ c.before.loop.z start.args.n _ _ all at, (rw all at c.before.loop.invariant.5, (omega (arith, grown, most, all), at.ordered)))
+    (reached-all count_in _ _ c.before.loop.z start.args.n _ _ all at, (rw all at c.before.loop.invariant.5, (omega (arith, grown, most, all), at.ordered)))
 
 pub count-grid-spec : {M : Type 1} → statement M
 count-grid-spec =

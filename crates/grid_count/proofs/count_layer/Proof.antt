@@ -1,6 +1,6 @@
 -- `count_layer`: a layer of the joined numbering above the lowest changes the count alone, and any other is counted row by row.
 use borrow.Author.Rules.{rules}
-use Rattle.lent_mesh.specs.Grid.{insideOf}
+use Rattle.lent_mesh.specs.Grid.{inside_of}
 use Rattle.grid_count.proofs.JoinedLayer.{joined-layer}
 use Rattle.grid_count.proofs.count_layer.Statement.{statement}
 use Rattle.grid_count.proofs.count_layer.Tie as tie
@@ -14,7 +14,7 @@ returns c =
     let args = start.args in
     let words = start.requires.1.1.0 in
     let counted = c.tally-layer.ensures.0 args.samples.now args.z words.0 words.1 (search rules) in (
-      joined-layer args.numbering args.n (insideOf args.n args.samples.now) args.z args.work.now args.counts c.tally-layer.result (search rules) counted,
+      joined-layer args.numbering args.n (inside_of args.n args.samples.now) args.z args.work.now args.counts c.tally-layer.result (search rules) counted,
       c.tally-layer.ensures.1,
     )
 

@@ -5,20 +5,20 @@ use native.Mathlib.Nat.{add_assoc}
 use native.Mathlib.Omega.{arith}
 use lib.ListN.{length}
 use borrow.Author.Rules.{rules}
-use Rattle.walk_models.specs.Owned.{cellsOfRow, cellsOfLayer}
-use Rattle.lent_mesh.specs.Grid.{insideOf}
+use Rattle.walk_models.specs.Owned.{cells_of_row, cells_of_layer}
+use Rattle.lent_mesh.specs.Grid.{inside_of}
 use Rattle.sign_cells.proofs.Turns.{Reached, reached-none, reached-next, reached-all}
-use Rattle.row_walk.specs.Steps.{rowParity}
+use Rattle.row_walk.specs.Steps.{row_parity}
 use Rattle.grid_walk.proofs.Layers.{parity-next}
 use Rattle.held_bits.specs.HeldCell.{held}
-use Rattle.row_count.specs.Steps.{countIn, countStep}
+use Rattle.row_count.specs.Steps.{count_in, count_step}
 use Rattle.grid_count.proofs.count_rows.Statement.{statement}
 use Rattle.grid_count.proofs.count_rows.Tie as tie
 
 abbrev invariant-loop : tie.invariant-loop
 invariant-loop numbering news names low high samples n z parity work₀ reached₀ row₀ y₀ work reached row y =
-    Reached countIn (λ j t. cellsOfRow (countStep numbering n (insideOf n samples)) n z j (n - 1) t) (held work₀ reached₀) (held work reached) y (1920 * y)
-    × (y ≤ n - 1) × (row ≡ rowParity n z y) × (length work ≡ length work₀)
+    Reached count_in (λ j t. cells_of_row (count_step numbering n (inside_of n samples)) n z j (n - 1) t) (held work₀ reached₀) (held work reached) y (1920 * y)
+    × (y ≤ n - 1) × (row ≡ row_parity n z y) × (length work ≡ length work₀)
 
 abbrev decreases-loop : tie.decreases-loop
 decreases-loop numbering news names low high samples n z parity work₀ reached₀ row₀ y₀ work reached row y =
@@ -27,7 +27,7 @@ decreases-loop numbering news names low high samples n z parity work₀ reached�
 loop-holds : tie.Need-loop-init invariant-loop decreases-loop
 loop-holds c =
     let start = c.before.before in
-    (reached-none countIn _ _ 1920 start.requires.1.1.1.ordered, zero-le, start.requires.1.0.2, refl)
+    (reached-none count_in _ _ 1920 start.requires.1.1.1.ordered, zero-le, start.requires.1.0.2, refl)
 
 sub-loop : tie.Need-overflow-sub-loop invariant-loop decreases-loop
 sub-loop c = omega (arith, c.before.before.before.requires.1.0.0)
@@ -69,7 +69,7 @@ loop-again c =
     let at = loop.invariant in
     let args = turn.before.before.before.before.args in
     let parity = parity-next (args.z * (args.n - 1) + loop.y) loop.row at.2 in (
-      reached-next countIn _ _ 1920 loop.y (held loop.work loop.reached) _ at.0 called.count-row.ensures.0 called.count-row.ensures.1.0 called.count-row.ensures.1.1,
+      reached-next count_in _ _ 1920 loop.y (held loop.work loop.reached) _ at.0 called.count-row.ensures.0 called.count-row.ensures.1.0 called.count-row.ensures.1.1,
       omega (arith, turn.loop-test.true),
       parity ∙ ap (λ (k : ℕ). k % 2) (add_assoc (args.z * (args.n - 1)) loop.y 1),
       c.before.work.given ∙ at.3,
@@ -79,14 +79,14 @@ same_length : tie.Need-same-length invariant-loop decreases-loop
 same_length c = search rules
 
 returns : tie.Need-returns invariant-loop decreases-loop
-unfolding cellsOfLayer
+unfolding cells_of_layer
 returns c =
     let start = c.before.before.before.before in
     let most = start.requires.1.0.1 in
     let at = c.before.loop.invariant.0 in
     let grown = at.grown in
     let all : c.before.loop.y ≡ start.args.n - 1 = omega (arith, c.loop-test.false, c.before.loop.invariant.1) in
-    (reached-all countIn _ _ c.before.loop.y (start.args.n - 1) _ _ all at, (omega (arith, grown, most, all), at.ordered))
+    (reached-all count_in _ _ c.before.loop.y (start.args.n - 1) _ _ all at, (omega (arith, grown, most, all), at.ordered))
 
 pub count-rows-spec : {M : Type 1} → statement M
 count-rows-spec =

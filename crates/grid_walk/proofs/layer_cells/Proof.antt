@@ -5,19 +5,19 @@ use native.Mathlib.Nat.{add_assoc}
 use native.Mathlib.Omega.{arith}
 use lib.ListN.{length}
 use borrow.Author.Rules.{rules}
-use Rattle.walk_models.specs.Owned.{cellsOfRow, cellsOfLayer}
-use Rattle.lent_mesh.specs.Stored.{inHand}
+use Rattle.walk_models.specs.Owned.{cells_of_row, cells_of_layer}
+use Rattle.lent_mesh.specs.Stored.{in_hand}
 use Rattle.sign_cells.proofs.Turns.{Reached, reached-none, reached-next, reached-all}
-use Rattle.row_walk.specs.Steps.{rowParity, cellStep}
-use Rattle.row_walk.proofs.WordLoop.{handCount}
+use Rattle.row_walk.specs.Steps.{row_parity, cell_step}
+use Rattle.row_walk.proofs.WordLoop.{hand_count}
 use Rattle.grid_walk.proofs.Layers.{parity-next}
 use Rattle.grid_walk.proofs.layer_cells.Statement.{statement}
 use Rattle.grid_walk.proofs.layer_cells.Tie as tie
 
 abbrev invariant-loop : tie.invariant-loop
 invariant-loop numbering rows regulars news coordinates low high samples n z parity work₀ vertices₀ indices₀ slots reached₀ row₀ y₀ work vertices indices reached row y =
-    Reached handCount (λ j t. cellsOfRow (cellStep numbering n samples) n z j (n - 1) t) (inHand work₀ vertices₀ indices₀ reached₀) (inHand work vertices indices reached) y (1920 * y)
-    × (y ≤ n - 1) × (row ≡ rowParity n z y) × (length work ≡ length work₀) × (length vertices ≡ length vertices₀) × (length indices ≡ length indices₀)
+    Reached hand_count (λ j t. cells_of_row (cell_step numbering n samples) n z j (n - 1) t) (in_hand work₀ vertices₀ indices₀ reached₀) (in_hand work vertices indices reached) y (1920 * y)
+    × (y ≤ n - 1) × (row ≡ row_parity n z y) × (length work ≡ length work₀) × (length vertices ≡ length vertices₀) × (length indices ≡ length indices₀)
 
 abbrev decreases-loop : tie.decreases-loop
 decreases-loop numbering rows regulars news coordinates low high samples n z parity work₀ vertices₀ indices₀ slots reached₀ row₀ y₀ work vertices indices reached row y =
@@ -75,9 +75,9 @@ loop-again c =
     let loop = turn.before.loop in
     let at = loop.invariant in
     let args = turn.before.before.before.before.before.before.before.args in
-    let here = inHand loop.work loop.vertices loop.indices loop.reached in
+    let here = in_hand loop.work loop.vertices loop.indices loop.reached in
     let parity = parity-next (args.z * (args.n - 1) + loop.y) loop.row at.2 in (
-      reached-next handCount _ _ 1920 loop.y here _ at.0 called.row-cells.ensures.0 called.row-cells.ensures.1.0 called.row-cells.ensures.1.1,
+      reached-next hand_count _ _ 1920 loop.y here _ at.0 called.row-cells.ensures.0 called.row-cells.ensures.1.0 called.row-cells.ensures.1.1,
       omega (arith, turn.loop-test.true),
       parity ∙ ap (λ (k : ℕ). k % 2) (add_assoc (args.z * (args.n - 1)) loop.y 1),
       c.before.before.before.before.before.work.given ∙ at.3,
@@ -95,7 +95,7 @@ same-length-3 : tie.Need-same-length-3 invariant-loop decreases-loop
 same-length-3 c = search rules
 
 returns : tie.Need-returns invariant-loop decreases-loop
-unfolding cellsOfLayer
+unfolding cells_of_layer
 returns c =
     let start = c.before.before.before.before.before.before.before in
     let most = start.requires.1.0.0.most in

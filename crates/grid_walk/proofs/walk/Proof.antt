@@ -5,15 +5,15 @@ use native.Mathlib.Nat.{add-zero}
 use native.Mathlib.Omega.{arith}
 use lib.ListN.{length}
 use borrow.Author.Rules.{rules}
-use Rattle.walk_models.specs.Owned.{cellsOfLayer}
-use Rattle.lent_mesh.specs.Stored.{inHand}
+use Rattle.walk_models.specs.Owned.{cells_of_layer}
+use Rattle.lent_mesh.specs.Stored.{in_hand}
 use Rattle.sign_words.specs.Words.{LayerWords}
 use Rattle.sign_words.proofs.RowWords.{planes-le}
 use Rattle.sign_cells.proofs.Turns.{Reached, reached-next, reached-all}
-use Rattle.row_walk.specs.Steps.{rowParity, cellStep}
-use Rattle.grid_walk.specs.Steps.{layerStep, walkSteps}
+use Rattle.row_walk.specs.Steps.{row_parity, cell_step}
+use Rattle.grid_walk.specs.Steps.{layer_step, walk_steps}
 use Rattle.row_walk.proofs.OneCell.{parity-le}
-use Rattle.row_walk.proofs.WordLoop.{handCount}
+use Rattle.row_walk.proofs.WordLoop.{hand_count}
 use Rattle.grid_walk.proofs.Layers.{swaps-le, parity-layer, layer-of, layer-done}
 use Rattle.grid_walk.proofs.IdleLayers.{reached-begun}
 use Rattle.grid_walk.proofs.walk.Statement.{statement}
@@ -21,8 +21,8 @@ use Rattle.grid_walk.proofs.walk.Tie as tie
 
 abbrev invariant-loop : tie.invariant-loop
 invariant-loop numbering samples n span work₀ vertices₀ indices₀ rows regulars news coordinates low₀ high₀ reached₀ row₀ z₀ work vertices indices low high reached row z =
-    Reached handCount (λ j t. layerStep numbering n samples j (cellsOfLayer (cellStep numbering n samples) n j (n - 1) t)) (inHand work₀ vertices₀ indices₀ reached₀) (inHand work vertices indices reached) z (243840 * z)
-    × (z ≤ span.last) × (row ≡ rowParity n z 0) × LayerWords n samples z low × (length work ≡ length work₀) × (length vertices ≡ length vertices₀) × (length indices ≡ length indices₀)
+    Reached hand_count (λ j t. layer_step numbering n samples j (cells_of_layer (cell_step numbering n samples) n j (n - 1) t)) (in_hand work₀ vertices₀ indices₀ reached₀) (in_hand work vertices indices reached) z (243840 * z)
+    × (z ≤ span.last) × (row ≡ row_parity n z 0) × LayerWords n samples z low × (length work ≡ length work₀) × (length vertices ≡ length vertices₀) × (length indices ≡ length indices₀)
 
 abbrev decreases-loop : tie.decreases-loop
 decreases-loop numbering samples n span work₀ vertices₀ indices₀ rows regulars news coordinates low₀ high₀ reached₀ row₀ z₀ work vertices indices low high reached row z =
@@ -142,10 +142,10 @@ loop-again c =
     let loop = turn.loop in
     let at = loop.invariant in
     let args = turn.before.before.before.before.before.before.before.before.before.before.before.before.args in
-    let here = inHand loop.work loop.vertices loop.indices loop.reached in
+    let here = in_hand loop.work loop.vertices loop.indices loop.reached in
     let parity = parity-layer args.n loop.z loop.row at.2 in
     let done = layer-done args.numbering args.n args.samples.now loop.z _ _ _ _ _ _ here parity called.layer-cells.ensures.0 ended.end-layer.ensures in (
-      reached-next handCount _ _ 243840 loop.z here _ at.0 done called.layer-cells.ensures.1.0 called.layer-cells.ensures.1.1,
+      reached-next hand_count _ _ 243840 loop.z here _ at.0 done called.layer-cells.ensures.1.0 called.layer-cells.ensures.1.1,
       omega (arith, filled.before.before.if1.true),
       parity,
       filled.fill-layer2.ensures,
@@ -164,7 +164,7 @@ same-length-3 : tie.Need-same-length-3 invariant-loop decreases-loop
 same-length-3 c = c.before.before.loop.invariant.6
 
 returns : tie.Need-returns invariant-loop decreases-loop
-unfolding walkSteps
+unfolding walk_steps
 returns c =
     let start = c.before.before.before.before.before.before.before.before.before.before.before.before.before.before in
     let most = start.requires.0.1 in
@@ -172,7 +172,7 @@ returns c =
     let at = c.before.before.loop.invariant.0 in
     let grown = at.grown in
     let all : c.before.before.loop.z ≡ start.args.span.last = omega (arith, c.if1.false, c.before.before.loop.invariant.1) in
-    (reached-all handCount _ _ c.before.before.loop.z start.args.span.last _ _ all at, (omega (arith, grown, most, last, all), at.ordered))
+    (reached-all hand_count _ _ c.before.before.loop.z start.args.span.last _ _ all at, (omega (arith, grown, most, last, all), at.ordered))
 
 pub walk-spec : {M : Type 1} → statement M
 walk-spec =

@@ -5,19 +5,19 @@ use native.Mathlib.Omega.{arith}
 use lib.ListN.{length, length-set}
 use borrow.Author.Rules.{rules}
 use Rattle.walk.specs.Walk.{times}
-use Rattle.held_bits.specs.HeldCell.{clearHeld}
-use Rattle.held_bits.proofs.CellSteps.{clearHeld-suc}
+use Rattle.held_bits.specs.HeldCell.{clear_held}
+use Rattle.held_bits.proofs.CellSteps.{clear_held-suc}
 use Rattle.held_bits.proofs.clear_held.Statement.{statement}
 use Rattle.held_bits.proofs.clear_held.Tie as tie
 
 abbrev invariant-loop : tie.invariant-loop
-invariant-loop work₀ n row x₀ work x = (x ≤ n) × (length work ≡ length work₀) × (work ≡ clearHeld n row x work₀)
+invariant-loop work₀ n row x₀ work x = (x ≤ n) × (length work ≡ length work₀) × (work ≡ clear_held n row x work₀)
 
 abbrev decreases-loop : tie.decreases-loop
 decreases-loop work₀ n row x₀ work x = n - x
 
 loop-holds : tie.Need-loop-init invariant-loop decreases-loop
-unfolding clearHeld times
+unfolding clear_held times
 loop-holds c = (omega arith, refl, refl)
 
 row-word-requires : tie.Need-row-word-requires invariant-loop decreases-loop
@@ -38,7 +38,7 @@ loop-less c = search rules
 loop-again : tie.Need-loop-preserved invariant-loop decreases-loop
 loop-again c =
     let turn = c.before.before in
-    (omega arith, simp length-set turn.loop.invariant.1, clearHeld-suc _ _ _ _ _ _ _ c.row_word.ensures.0 turn.loop.invariant.2 refl)
+    (omega arith, simp length-set turn.loop.invariant.1, clear_held-suc _ _ _ _ _ _ _ c.row_word.ensures.0 turn.loop.invariant.2 refl)
 
 same_length : tie.Need-same-length invariant-loop decreases-loop
 same_length c = search rules

@@ -1,11 +1,11 @@
 -- `name_words`: the constant is the list of specs/.
 use mathlib.Core.Path.{refl}
-use Rattle.held_bits.specs.Names.{nameWords}
+use Rattle.held_bits.specs.Names.{name_words}
 use Rattle.held_bits.proofs.name_words.Statement.{statement}
 use Rattle.held_bits.proofs.name_words.Tie as tie
 
 returns : tie.Need-returns
-unfolding nameWords
+unfolding name_words
 returns c = refl
 
 pub name-words-spec : {M : Type 1} → statement M

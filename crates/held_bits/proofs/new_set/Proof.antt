@@ -1,11 +1,11 @@
 -- `new_set`: as defined.
 use mathlib.Core.Path.{refl}
-use Rattle.held_bits.specs.HeldCell.{newSet}
+use Rattle.held_bits.specs.HeldCell.{new_set}
 use Rattle.held_bits.proofs.new_set.Statement.{statement}
 use Rattle.held_bits.proofs.new_set.Tie as tie
 
 returns : tie.Need-returns
-unfolding newSet
+unfolding new_set
 returns c = refl
 
 pub new-set-spec : {M : Type 1} → statement M

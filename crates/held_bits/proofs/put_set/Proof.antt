@@ -1,7 +1,7 @@
 -- `put_set`: one word is read and written.
 use mathlib.Core.Path.{refl}
 use borrow.Author.Rules.{rules}
-use Rattle.held_bits.specs.HeldCell.{putSet}
+use Rattle.held_bits.specs.HeldCell.{put_set}
 use Rattle.held_bits.proofs.put_set.Statement.{statement}
 use Rattle.held_bits.proofs.put_set.Tie as tie
 
@@ -21,7 +21,7 @@ same_length : tie.Need-same-length
 same_length c = search rules
 
 returns : tie.Need-returns
-unfolding putSet
+unfolding put_set
 returns c = refl
 
 pub put-set-spec : {M : Type 1} → statement M

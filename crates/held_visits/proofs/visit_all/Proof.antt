@@ -4,9 +4,9 @@ use Prim.Native.Nat.{◌+◌, ◌≤◌}
 use native.Mathlib.Omega.{arith}
 use lib.ListN.{length}
 use Rattle.packed_tables.specs.Unpacked.{unpacked, Edges}
-use Rattle.lent_mesh.specs.Stored.{inHand}
+use Rattle.lent_mesh.specs.Stored.{in_hand}
 use Rattle.index_cache.proofs.Places.{room-kept}
-use Rattle.held_visits.specs.CellMemory.{inCell}
+use Rattle.held_visits.specs.CellMemory.{in_cell}
 use Rattle.packed_tables.proofs.PackedEdges.{edges-first, edges-rest}
 use Rattle.held_visits.proofs.PackedVisits.{ToGo, turn-taken, all-taken}
 use Rattle.held_visits.proofs.visit_all.Statement.{statement}
@@ -17,8 +17,8 @@ invariant-loop samples coordinates n x y z layer row count edges current₀ work
     (reached.made ≤ reached.written) × (reached.written + left ≡ reached₀.written + count) × (length work ≡ length work₀) × (length vertices ≡ length vertices₀)
     × (length indices ≡ length indices₀)
     × Edges (unpacked left rest)
-    × ToGo n samples x y z left rest (inHand (inCell work layer row current) vertices indices reached) count edges
-    (inHand (inCell work₀ layer row current₀) vertices₀ indices₀ reached₀)
+    × ToGo n samples x y z left rest (in_hand (in_cell work layer row current) vertices indices reached) count edges
+    (in_hand (in_cell work₀ layer row current₀) vertices₀ indices₀ reached₀)
 
 abbrev decreases-loop : tie.decreases-loop
 decreases-loop samples coordinates n x y z layer row count edges current₀ work₀ vertices₀ indices₀ left₀ rest₀ reached₀ current work vertices indices left rest reached =
@@ -64,9 +64,9 @@ loop-again c =
       c.before.indices.given ∙ inv.4,
       edges-rest turn.loop.left turn.loop.rest taken inv.5,
       turn-taken args.n args.samples.now args.x args.y args.z turn.loop.left turn.loop.rest
-          (inHand (inCell turn.loop.work args.layer args.row turn.loop.current) turn.loop.vertices turn.loop.indices turn.loop.reached)
+          (in_hand (in_cell turn.loop.work args.layer args.row turn.loop.current) turn.loop.vertices turn.loop.indices turn.loop.reached)
           _ args.count args.edges
-          (inHand (inCell args.work.now args.layer args.row args.current.now) args.vertices.now args.indices.now args.counts) taken
+          (in_hand (in_cell args.work.now args.layer args.row args.current.now) args.vertices.now args.indices.now args.counts) taken
           visited.visit.ensures.0 inv.6,
     )
 
@@ -85,8 +85,8 @@ returns c =
     let args = c.before.before.before.before.before.before.args in
     let none = c.loop-test.false in (
       all-taken args.n args.samples.now args.x args.y args.z end.left end.rest
-          (inHand (inCell end.work args.layer args.row end.current) end.vertices end.indices end.reached) args.count args.edges
-          (inHand (inCell args.work.now args.layer args.row args.current.now) args.vertices.now args.indices.now args.counts) none end.invariant.6,
+          (in_hand (in_cell end.work args.layer args.row end.current) end.vertices end.indices end.reached) args.count args.edges
+          (in_hand (in_cell args.work.now args.layer args.row args.current.now) args.vertices.now args.indices.now args.counts) none end.invariant.6,
       (omega (arith, none, end.invariant.1), end.invariant.0),
     )
 

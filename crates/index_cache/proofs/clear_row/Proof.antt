@@ -4,20 +4,20 @@ use Prim.Native.Nat.{◌-◌, ◌≤◌}
 use native.Mathlib.Omega.{arith}
 use lib.ListN.{length}
 use Rattle.walk.specs.Walk.{times}
-use Rattle.walk_models.specs.CacheMemory.{clearRow}
-use Rattle.index_cache.proofs.Places.{clearRow-suc}
+use Rattle.walk_models.specs.CacheMemory.{clear_row}
+use Rattle.index_cache.proofs.Places.{clear_row-suc}
 use borrow.Author.Rules.{rules}
 use Rattle.index_cache.proofs.clear_row.Statement.{statement}
 use Rattle.index_cache.proofs.clear_row.Tie as tie
 
 abbrev invariant-loop : tie.invariant-loop
-invariant-loop work₀ n row x₀ work x = (x ≤ n) × (length work ≡ length work₀) × (work ≡ clearRow n row x work₀)
+invariant-loop work₀ n row x₀ work x = (x ≤ n) × (length work ≡ length work₀) × (work ≡ clear_row n row x work₀)
 
 abbrev decreases-loop : tie.decreases-loop
 decreases-loop work₀ n row x₀ work x = n - x
 
 loop-holds : tie.Need-loop-init invariant-loop decreases-loop
-unfolding clearRow times
+unfolding clear_row times
 loop-holds c = (omega arith, refl, refl)
 
 row-place-requires : tie.Need-row-place-requires invariant-loop decreases-loop
@@ -38,7 +38,7 @@ loop-again c =
     let turn = cleared.before.before.before.before in (
       omega arith,
       omega arith,
-      clearRow-suc _ _ _ _ _ _ _ cleared.before.row-place.ensures.0 turn.loop.invariant.2 cleared.clear-three.ensures,
+      clear_row-suc _ _ _ _ _ _ _ cleared.before.row-place.ensures.0 turn.loop.invariant.2 cleared.clear-three.ensures,
     )
 
 same_length : tie.Need-same-length invariant-loop decreases-loop

@@ -2,24 +2,24 @@
 use mathlib.Core.Path.{sym, ap}
 use native.Mathlib.Omega.{arith}
 use borrow.Author.Tests.{ne_eqb}
-use Rattle.walk.specs.Cache.{putColumn}
+use Rattle.walk.specs.Cache.{put_column}
 use Rattle.index_cache.proofs.put_column.Statement.{statement}
 use Rattle.index_cache.proofs.put_column.Tie as tie
 
 returns : tie.Need-returns
-unfolding putColumn
-returns c = (sym (ap putColumn c.match.keys1), omega arith)
+unfolding put_column
+returns c = (sym (ap put_column c.match.keys1), omega arith)
 
 returns-2 : tie.Need-returns-2
-unfolding putColumn
-returns-2 c = (sym (ap putColumn c.match.keys2), omega arith)
+unfolding put_column
+returns-2 c = (sym (ap put_column c.match.keys2), omega arith)
 
 returns-3 : tie.Need-returns-3
-unfolding putColumn
-returns-3 c = (sym (ap putColumn c.match.keys3), omega arith)
+unfolding put_column
+returns-3 c = (sym (ap put_column c.match.keys3), omega arith)
 
 returns-4 : tie.Need-returns-4
-unfolding putColumn
+unfolding put_column
 returns-4 c = (simp (ne_eqb _ _ c.match.rest.0.0.1, ne_eqb _ _ c.match.rest.0.1, ne_eqb _ _ c.match.rest.1), omega arith)
 
 pub put-column-spec : {M : Type 1} → statement M

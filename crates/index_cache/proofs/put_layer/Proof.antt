@@ -1,16 +1,16 @@
 -- `put_layer`: edges 4 to 7, and no other.
 use borrow.Author.Tests.{le-leb, lt-leb}
-use Rattle.walk.specs.Cache.{inLayer}
+use Rattle.walk.specs.Cache.{in_layer}
 use borrow.Author.Rules.{rules}
 use Rattle.index_cache.proofs.put_layer.Statement.{statement}
 use Rattle.index_cache.proofs.put_layer.Tie as tie
 
 returns : tie.Need-returns
-unfolding inLayer
+unfolding in_layer
 returns c = simp (lt-leb _ _ c.if1.true)
 
 returns-2 : tie.Need-returns-2
-unfolding inLayer
+unfolding in_layer
 returns-2 c = simp (le-leb _ _ c.before.if1.false, lt-leb _ _ c.if2.true)
 
 add-work : tie.Need-overflow-add-work
@@ -26,7 +26,7 @@ same_length : tie.Need-same-length
 same_length c = search rules
 
 returns-3 : tie.Need-returns-3
-unfolding inLayer
+unfolding in_layer
 returns-3 c = simp (le-leb _ _ c.before.if1.false, le-leb _ _ c.if2.false)
 
 pub put-layer-spec : {M : Type 1} → statement M

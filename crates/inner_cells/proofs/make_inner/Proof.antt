@@ -3,9 +3,9 @@ use mathlib.Core.Path.{refl, sym, subst}
 use Prim.Native.Nat.{ℕ, ◌*◌, ◌/◌, ◌%◌, ◌^◌, ◌≤◌}
 use native.Mathlib.Omega.{arith}
 use borrow.Author.Rules.{rules}
-use Rattle.packed_tables.specs.Unpacked.{marked, upperMarked}
-use Rattle.lent_mesh.specs.Stored.{storeAt, inHand}
-use Rattle.inner_cells.specs.Ranked.{makeRanked}
+use Rattle.packed_tables.specs.Unpacked.{marked, upper_marked}
+use Rattle.lent_mesh.specs.Stored.{store_at, in_hand}
+use Rattle.inner_cells.specs.Ranked.{make_ranked}
 use Rattle.inner_cells.proofs.RankedEdges.{each_both}
 use Rattle.inner_cells.proofs.make_inner.Statement.{statement}
 use Rattle.inner_cells.proofs.make_inner.Tie as tie
@@ -45,8 +45,8 @@ returns c =
     let args = upper.before.before.before.before.before.before.args in
     let written = args.counts.written in (
       λ l.
-          each_both (makeRanked (storeAt args.n args.samples.now) args.n args.z args.y args.x)
-          (upperMarked args.word) (marked 10 (args.word / 2 ^ 24 % 16)) (inHand args.work.now args.vertices.now l args.counts) _ _
+          each_both (make_ranked (store_at args.n args.samples.now) args.n args.z args.y args.x)
+          (upper_marked args.word) (marked 10 (args.word / 2 ^ 24 % 16)) (in_hand args.work.now args.vertices.now l args.counts) _ _
           (upper.make-upper.ensures l written) (third.make-marked.ensures l written),
       (refl, refl),
     )

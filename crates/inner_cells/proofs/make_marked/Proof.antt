@@ -4,7 +4,7 @@ use Prim.Native.Nat.{◌+◌, ◌<◌}
 use native.Mathlib.Omega.{arith}
 use lib.ListN.{length, get_or}
 use borrow.Author.Rules.{rules}
-use Rattle.lent_mesh.specs.Stored.{storeAt}
+use Rattle.lent_mesh.specs.Stored.{store_at}
 use Rattle.joined_slots.proofs.TwelveSlots.{slot-in-work}
 use Rattle.inner_cells.proofs.RankedEdges.{marked-absent, marked-present}
 use Rattle.inner_cells.proofs.make_marked.Statement.{statement}
@@ -56,7 +56,7 @@ returns c =
     let start = some.before.before.before.before in
     let args = start.args in
     λ l written.
-    marked-present (storeAt args.n args.samples.now) args.n args.x args.y args.z args.at args.edge args.mark args.made
+    marked-present (store_at args.n args.samples.now) args.n args.x args.y args.z args.at args.edge args.mark args.made
     written args.slots.now args.work.now l _ args.vertices.now _ start.requires.1.0.1 start.requires.1.1.0.0 some.if1.true
     refl put.put-vertex.ensures
 
@@ -65,7 +65,7 @@ returns-2 : tie.Need-returns-2
 returns-2 c =
     let args = c.before.before.before.before.args in
     λ l written.
-    marked-absent (storeAt args.n args.samples.now) args.n args.x args.y args.z args.edge args.mark _ c.if1.false
+    marked-absent (store_at args.n args.samples.now) args.n args.x args.y args.z args.edge args.mark _ c.if1.false
 
 pub make-marked-spec : {M : Type 1} → statement M
 make-marked-spec =

@@ -4,8 +4,8 @@ use Prim.Native.Nat.{ℕ, ◌*◌, ◌/◌, ◌%◌, ◌^◌, ◌≤◌}
 use native.Mathlib.Omega.{arith}
 use borrow.Author.Rules.{rules}
 use Rattle.packed_tables.specs.Unpacked.{marked}
-use Rattle.lent_mesh.specs.Stored.{storeAt}
-use Rattle.inner_cells.specs.Ranked.{makeRanked, hand}
+use Rattle.lent_mesh.specs.Stored.{store_at}
+use Rattle.inner_cells.specs.Ranked.{make_ranked, hand}
 use Rattle.inner_cells.proofs.RankedEdges.{each_both}
 use Rattle.inner_cells.proofs.make_upper.Statement.{statement}
 use Rattle.inner_cells.proofs.make_upper.Tie as tie
@@ -42,7 +42,7 @@ returns c =
     let args = first.before.before.before.before.before.before.args in
     let word = args.word in
     λ l written.
-    each_both (makeRanked (storeAt args.n args.samples.now) args.n args.z args.y args.x)
+    each_both (make_ranked (store_at args.n args.samples.now) args.n args.z args.y args.x)
     (marked 5 (word / 2 ^ 16 % 16)) (marked 6 (word / 2 ^ 20 % 16)) (hand args.work.now args.vertices.now l args.made written) _ _
     (first.make-marked.ensures l written) (second.make-marked2.ensures l written)
 

@@ -5,8 +5,8 @@ use native.Mathlib.Nat.{le_refl, add-le-add, lt_of_le_of_lt}
 use native.Mathlib.Omega.{arith}
 use lib.ListN.{length, get_or}
 use borrow.Author.Rules.{rules}
-use Rattle.lent_mesh.specs.Grid.{insideOf}
-use Rattle.lent_mesh.specs.Stored.{storeAt, inHand}
+use Rattle.lent_mesh.specs.Grid.{inside_of}
+use Rattle.lent_mesh.specs.Stored.{store_at, in_hand}
 use Rattle.lent_mesh.proofs.Places.{row_small}
 use Rattle.joined_slots.specs.OneCell.{SlotsFrom}
 use Rattle.joined_slots.proofs.TwelveSlots.{slots-from, slot-in-work}
@@ -100,8 +100,8 @@ returns c =
     let w = held start in
     let row = get_or args.rows.now args.case 0 in
     let fresh = get_or args.news.now (256 * args.class + args.case) 0 in
-    let store = storeAt args.n args.samples.now in (
-      cell-passes (insideOf args.n args.samples.now) args.x args.y args.z args.class args.case row fresh pre.1.1.0.0 pre.1.1.0.1 w store args.n (inHand args.work.now args.vertices.now args.indices.now args.counts) _ _
+    let store = store_at args.n args.samples.now in (
+      cell-passes (inside_of args.n args.samples.now) args.x args.y args.z args.class args.case row fresh pre.1.1.0.0 pre.1.1.0.1 w store args.n (in_hand args.work.now args.vertices.now args.indices.now args.counts) _ _
           (made.make-new.ensures.0 args.indices.now)
           (named.name-all.ensures.0 args.n args.x args.y args.z store _ (cell-slots start _ refl)),
       counts-grown args.class args.case row fresh args.counts.made args.counts.written made.make-new.result.made made.make-new.result.written

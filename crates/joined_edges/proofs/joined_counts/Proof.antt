@@ -3,16 +3,16 @@ use mathlib.Core.Path.{refl, sym, ap}
 use Prim.Native.Nat.{ℕ, ◌+◌}
 use lib.ListN.{get_or}
 use borrow.Author.Rules.{rules}
-use Rattle.packed_tables.specs.Packed.{rowWords}
+use Rattle.packed_tables.specs.Packed.{row_words}
 use Rattle.joined_edges.proofs.CellWords.{Words, words, counts-grown, cell-counts}
 use Rattle.joined_edges.proofs.joined_counts.Statement.{statement}
 use Rattle.joined_edges.proofs.joined_counts.Tie as tie
 
 held : (c : tie.After-new-word)
-    → (let args = c.before.args in Words args.class args.case (get_or rowWords args.case 0) c.new_word.result)
+    → (let args = c.before.args in Words args.class args.case (get_or row_words args.case 0) c.new_word.result)
 held c =
     let start = c.before in
-    words _ _ _ rowWords start.args.news.now start.requires.0.2 start.requires.0.1 refl start.requires.0.0 c.new_word.ensures
+    words _ _ _ row_words start.args.news.now start.requires.0.2 start.requires.0.1 refl start.requires.0.0 c.new_word.ensures
 
 new-word-requires : tie.Need-new-word-requires
 new-word-requires c κs = search rules

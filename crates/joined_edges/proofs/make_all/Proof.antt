@@ -5,9 +5,9 @@ use Prim.Native.Nat.{ℕ, ◌+◌, ◌%◌, ◌≤◌, ◌<◌}
 use native.Mathlib.Omega.{arith}
 use lib.ListN.{length, get_or, length-set}
 use borrow.Author.Rules.{rules}
-use Rattle.walk_models.specs.Owned.{makeEdge}
+use Rattle.walk_models.specs.Owned.{make_edge}
 use Rattle.packed_tables.specs.Unpacked.{unpacked, Edges}
-use Rattle.lent_mesh.specs.Stored.{storeAt}
+use Rattle.lent_mesh.specs.Stored.{store_at}
 use Rattle.joined_slots.specs.OneCell.{each}
 use Rattle.inner_cells.specs.Ranked.{hand}
 use Rattle.joined_slots.proofs.TwelveSlots.{slot-in-work}
@@ -18,8 +18,8 @@ use Rattle.joined_edges.proofs.make_all.Tie as tie
 abbrev invariant-loop : tie.invariant-loop
 invariant-loop samples coordinates slots n x y z at list count work₀ vertices₀ written made₀ rest₀ left₀ work vertices made rest left =
     (made + left ≡ made₀ + count) × (left ≤ 15) × Edges (unpacked left rest) × (length work ≡ length work₀) × (length vertices ≡ length vertices₀)
-    × ((l : List ℕ) → each (makeEdge (storeAt n samples) n z y x) (unpacked left rest) (hand work vertices l made written)
-    ≡ each (makeEdge (storeAt n samples) n z y x) (unpacked count list) (hand work₀ vertices₀ l made₀ written))
+    × ((l : List ℕ) → each (make_edge (store_at n samples) n z y x) (unpacked left rest) (hand work vertices l made written)
+    ≡ each (make_edge (store_at n samples) n z y x) (unpacked count list) (hand work₀ vertices₀ l made₀ written))
 
 abbrev decreases-loop : tie.decreases-loop
 decreases-loop samples coordinates slots n x y z at list count work₀ vertices₀ written made₀ rest₀ left₀ work vertices made rest left = left
@@ -88,7 +88,7 @@ loop-again c =
       length-set now.work _ _ ∙ now.invariant.3,
       c.before.vertices.given ∙ now.invariant.4,
       λ l.
-          sym (make-next (storeAt args.n args.samples.now) args.n args.x args.y args.z args.at args.slots.now start.requires.1.0.1
+          sym (make-next (store_at args.n args.samples.now) args.n args.x args.y args.z args.at args.slots.now start.requires.1.0.1
           now.left now.rest turn.loop-test.true now.invariant.2 now.made args.counts.written now.work l now.vertices _ _ refl put)
           ∙ now.invariant.5 l,
     )
@@ -104,7 +104,7 @@ returns c =
     let now = c.before.loop in
     let args = c.before.before.before.before.before.args in (
       λ l.
-          sym (each_none (makeEdge (storeAt args.n args.samples.now) args.n args.z args.y args.x) now.left now.rest (hand now.work now.vertices l now.made args.counts.written) (omega (arith, c.loop-test.false)))
+          sym (each_none (make_edge (store_at args.n args.samples.now) args.n args.z args.y args.x) now.left now.rest (hand now.work now.vertices l now.made args.counts.written) (omega (arith, c.loop-test.false)))
           ∙ now.invariant.5 l,
       (omega (arith, c.loop-test.false, now.invariant.0), refl),
     )

@@ -7,9 +7,9 @@ use lib.ListN.{get_or}
 use lib.Dec.{eqb}
 use borrow.Author.Tests.{eqb-true}
 use Rattle.walk.proofs.Bools.{and_left}
-use Rattle.walk_models.specs.Owned.{makeEdge}
-use Rattle.packed_tables.specs.Packed.{rowWords}
-use Rattle.lent_mesh.specs.Stored.{storeAt, inHand}
+use Rattle.walk_models.specs.Owned.{make_edge}
+use Rattle.packed_tables.specs.Packed.{row_words}
+use Rattle.lent_mesh.specs.Stored.{store_at, in_hand}
 use Rattle.joined_slots.specs.OneCell.{each}
 use Rattle.joined_edges.proofs.CellWords.{Words, words}
 use Rattle.joined_edges.proofs.InnerCells.{inner-marks, inner_made}
@@ -17,11 +17,11 @@ use Rattle.joined_edges.proofs.make_new.Statement.{statement}
 use Rattle.joined_edges.proofs.make_new.Tie as tie
 
 held : (c : tie.After-new-word)
-    → (let args = c.before.before.before.before.args in Words args.class args.case (get_or rowWords args.case 0) c.new_word.result)
+    → (let args = c.before.before.before.before.args in Words args.class args.case (get_or row_words args.case 0) c.new_word.result)
 held c =
     let start = c.before.before.before.before in
     let known = start.requires.1.0 in
-    words start.args.class start.args.case c.new_word.result rowWords start.args.news.now known.2 known.1 refl known.0 c.new_word.ensures
+    words start.args.class start.args.case c.new_word.result row_words start.args.news.now known.2 known.1 refl known.0 c.new_word.ensures
 
 new-word-requires : tie.Need-new-word-requires
 new-word-requires c κs = let known = c.before.before.before.requires.1.0 in (known.1, known.2)
@@ -60,7 +60,7 @@ returns c =
     let counts = inner.make-inner.ensures.1 in
     let m = inner-marks args.class args.case word.new_word.result args.news.now (eqb-true args.class 0 (and_left (eqb args.class 0) _ class.if1.true)) known.1 known.0 word.new_word.ensures in (
       λ l.
-          inner_made args.samples.now args.n args.x args.y args.z args.class args.case (get_or rowWords args.case 0) word.new_word.result cell.in-x cell.in-y w m args.work.now l _
+          inner_made args.samples.now args.n args.x args.y args.z args.class args.case (get_or row_words args.case 0) word.new_word.result cell.in-x cell.in-y w m args.work.now l _
           args.vertices.now _ args.counts.made args.counts.written inner.make-inner.result.made inner.make-inner.result.written (inner.make-inner.ensures.0 l) counts.0 counts.1,
       (counts.0 ∙ ap (λ (k : ℕ). args.counts.made + k) (sym w.new-count), counts.1),
     )
@@ -81,8 +81,8 @@ returns-2 c =
     let counts = all.make-all.ensures.1 in (
       λ l.
           all.make-all.ensures.0 l
-          ∙ ap (λ (es : List ℕ). each (makeEdge (storeAt args.n args.samples.now) args.n args.z args.y args.x) es
-          (inHand args.work.now args.vertices.now l args.counts)) w.new-edges,
+          ∙ ap (λ (es : List ℕ). each (make_edge (store_at args.n args.samples.now) args.n args.z args.y args.x) es
+          (in_hand args.work.now args.vertices.now l args.counts)) w.new-edges,
       (counts.0 ∙ ap (λ (k : ℕ). args.counts.made + k) (sym w.new-count), counts.1),
     )
 

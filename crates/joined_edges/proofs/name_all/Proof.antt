@@ -6,7 +6,7 @@ use native.Mathlib.Omega.{arith}
 use lib.ListN.{length, get_or}
 use lib.Ieee.{Float}
 use Rattle.walk.specs.Walk.{Visit}
-use Rattle.walk_models.specs.Owned.{nameEdge}
+use Rattle.walk_models.specs.Owned.{name_edge}
 use Rattle.packed_tables.specs.Unpacked.{unpacked, Edges}
 use Rattle.joined_slots.specs.OneCell.{SlotsFrom, each}
 use Rattle.inner_cells.specs.Ranked.{hand}
@@ -18,8 +18,8 @@ abbrev invariant-loop : tie.invariant-loop
 invariant-loop slots at list triangles work indices₀ made written₀ rest₀ left₀ indices written rest left =
     (written + 3 * left ≡ written₀ + 3 * triangles) × (left ≤ 5) × Edges (unpacked (3 * left) rest) × (length indices ≡ length indices₀)
     × ((n x y z : ℕ) (store : Visit → ℕ → List Float → List Float) (b : List Float) → SlotsFrom at slots n x y z
-    → each (nameEdge store n z y x) (unpacked (3 * left) rest) (hand work b indices made written)
-    ≡ each (nameEdge store n z y x) (unpacked (3 * triangles) list) (hand work b indices₀ made written₀))
+    → each (name_edge store n z y x) (unpacked (3 * left) rest) (hand work b indices made written)
+    ≡ each (name_edge store n z y x) (unpacked (3 * triangles) list) (hand work b indices₀ made written₀))
 
 abbrev decreases-loop : tie.decreases-loop
 decreases-loop slots at list triangles work indices₀ made written₀ rest₀ left₀ indices written rest left = left
@@ -92,7 +92,7 @@ same_length c = c.before.loop.invariant.3
 returns : tie.Need-returns invariant-loop decreases-loop
 returns c =
     let now = c.before.loop in (
-      λ n x y z store b places. sym (each_none (nameEdge store n z y x) (3 * now.left) now.rest _ (omega (arith, c.loop-test.false))) ∙ now.invariant.4 n x y z store b places,
+      λ n x y z store b places. sym (each_none (name_edge store n z y x) (3 * now.left) now.rest _ (omega (arith, c.loop-test.false))) ∙ now.invariant.4 n x y z store b places,
       (refl, omega (arith, c.loop-test.false, now.invariant.0)),
     )
 

@@ -2,8 +2,8 @@
 use mathlib.Core.Path.{sym, ap, ◌∙◌}
 use borrow.Author.Rules.{rules}
 use Rattle.morton_cells.specs.declared.Point.{Point}
-use Rattle.morton_cells.specs.Cell.{pointCause}
-use Rattle.key_answer.specs.Key.{centerLeft}
+use Rattle.morton_cells.specs.Cell.{point_cause}
+use Rattle.key_answer.specs.Key.{center_left}
 use Rattle.key_answer.proofs.center.Statement.{statement}
 use Rattle.key_answer.proofs.center.Tie as tie
 
@@ -20,13 +20,13 @@ returns : tie.Need-returns
 returns c =
     let start = c.before.before.before.before.before in
     let told = sym c.before.before.before.before.center.ensures ∙ c.before.before.point.given.1 in
-    (sym (ap pointCause told), sym (ap (λ (p : Point). centerLeft p start.args.center.now) told))
+    (sym (ap point_cause told), sym (ap (λ (p : Point). center_left p start.args.center.now) told))
 
 returns-2 : tie.Need-returns-2
 returns-2 c =
     let start = c.before.before.before in
     let told = sym c.before.before.center.ensures ∙ c.enum_told.given.1 in
-    (sym (ap pointCause told), sym (ap (λ (p : Point). centerLeft p start.args.center.now) told))
+    (sym (ap point_cause told), sym (ap (λ (p : Point). center_left p start.args.center.now) told))
 
 pub center-spec : {M : Type 1} → statement M
 center-spec = tie.close (tie.spec center-requires enum-known-point enum_told returns returns-2)

@@ -1,7 +1,7 @@
 -- `level`: the answer of `morton::level`, as `key_answer` passes it on.
 use mathlib.Core.Path.{ap, ◌∙◌}
 use borrow.Author.Rules.{rules}
-use Rattle.key_answer.specs.Key.{keyAnswer}
+use Rattle.key_answer.specs.Key.{key_answer}
 use Rattle.key_answer.proofs.level.Statement.{statement}
 use Rattle.key_answer.proofs.level.Tie as tie
 
@@ -12,7 +12,7 @@ key-answer-requires : tie.Need-key-answer-requires
 key-answer-requires c κs = search rules
 
 returns : tie.Need-returns
-returns c = c.key-answer.ensures ∙ ap keyAnswer c.before.level.ensures
+returns c = c.key-answer.ensures ∙ ap key_answer c.before.level.ensures
 
 pub level-spec : {M : Type 1} → statement M
 level-spec = tie.close (tie.spec level-requires key-answer-requires returns)

@@ -5,7 +5,7 @@ use native.Mathlib.Omega.{arith}
 use lib.Dec.{eqb}
 use borrow.Author.Rules.{rules}
 use borrow.Author.Tests.{eq-eqb, ne_eqb}
-use Rattle.lent_mesh.specs.Grid.{insideOf}
+use Rattle.lent_mesh.specs.Grid.{inside_of}
 use Rattle.cell_tally.specs.Tally.{is_set}
 use Rattle.layer_tally.proofs.MaskBits.{every_set, none-set}
 use Rattle.layer_tally.proofs.WordSteps.{layer-from, layer-begun}
@@ -51,7 +51,7 @@ returns c =
     let first-grown = begun.ensures.1.0 in
     let grown = ended.ensures.1.0 in (
       (λ samples z lower upper above.
-          layer-begun (insideOf args.n samples) args.n z _ _ _ least most
+          layer-begun (inside_of args.n samples) args.n z _ _ _ least most
           (begun.ensures.0 samples z lower upper above (λ i j a b l. top-first i j b l))
           (ended.ensures.0 samples z lower upper above (λ i j a b l. top-after i j a))),
       (omega (arith, least, most, first-grown, grown), ended.ensures.1.1),
@@ -80,7 +80,7 @@ returns-2 c =
     let counted = c.tally-words3 in
     let grown = counted.ensures.1.0 in (
       (λ samples z lower upper above.
-          layer-from (insideOf args.n samples) args.n z rows.result _ _ most few (λ x y h l. rows.ensures.0 samples z lower upper x y h l)
+          layer-from (inside_of args.n samples) args.n z rows.result _ _ most few (λ x y h l. rows.ensures.0 samples z lower upper x y h l)
           (counted.ensures.0 samples z lower upper above (λ i j a b l. top-after i j (omega (arith, some.false, a))))),
       (omega (arith, most, grown), counted.ensures.1.1),
     )

@@ -7,12 +7,12 @@ use lib.ListN.{length, get_or, length-set}
 use lib.Seq.{get_or-set_same, get_or-set_other}
 use lib.Ieee.{nan}
 use borrow.Author.Rules.{rules}
-use Rattle.positions.specs.Position.{step_of, cornerOf}
+use Rattle.positions.specs.Position.{step_of, corner_of}
 use Rattle.lent_mesh.proofs.coordinates.Statement.{statement}
 use Rattle.lent_mesh.proofs.coordinates.Tie as tie
 
 abbrev invariant-loop : tie.invariant-loop
-invariant-loop n step all₀ i₀ all i = (i ≤ n + 1) × (step ≡ step_of n) × (length all ≡ 129) × ((k : ℕ) → k < i → get_or all k nan ≡ cornerOf k (step_of n))
+invariant-loop n step all₀ i₀ all i = (i ≤ n + 1) × (step ≡ step_of n) × (length all ≡ 129) × ((k : ℕ) → k < i → get_or all k nan ≡ corner_of k (step_of n))
 
 abbrev decreases-loop : tie.decreases-loop
 decreases-loop n step all₀ i₀ all i = n + 1 - i

@@ -5,7 +5,7 @@ use native.Mathlib.Omega.{arith}
 use borrow.Author.Rules.{rules}
 use Rattle.lent_mesh.proofs.Places.{corner-in}
 use Rattle.lent_mesh.proofs.EndOffsets.{end-offset}
-use Rattle.lent_mesh.proofs.VertexOn.{positionAt-known}
+use Rattle.lent_mesh.proofs.VertexOn.{position_at-known}
 use Rattle.lent_mesh.proofs.vertex_on.Statement.{statement}
 use Rattle.lent_mesh.proofs.vertex_on.Tie as tie
 
@@ -126,7 +126,7 @@ returns c =
     let start = ends.before.before.before.before.before.before.before in
     let args = start.args in
     let e = start.requires.1.0 in
-    positionAt-known args.n args.x args.y args.z args.edge args.samples.now args.coordinates.now start.requires.0 start.requires.1.1
+    position_at-known args.n args.x args.y args.z args.edge args.samples.now args.coordinates.now start.requires.0 start.requires.1.1
     ends.before.before.before.before.before.offset.result
     ends.before.before.before.before.offset2.result
     ends.before.before.before.offset3.result

@@ -5,9 +5,9 @@ use native.Mathlib.Nat.{mul-le-mul}
 use native.Mathlib.Omega.{arith}
 use lib.ListN.{length, take, replicate}
 use lib.Ieee.{binary32, of_bits}
-use Rattle.record_samples.specs.Samples.{samplesOf}
+use Rattle.record_samples.specs.Samples.{samples_of}
 use Rattle.sample_record.proofs.Accepted.{Accepted}
-use Rattle.listing.proofs.Bytes.{accepted-of, sampleCount-le, lent-samples, listing-refused, listing-grid, front_of}
+use Rattle.listing.proofs.Bytes.{accepted-of, sample_count-le, lent-samples, listing-refused, listing-grid, front_of}
 use borrow.Author.Rules.{rules}
 use Rattle.listing.proofs.list.Statement.{statement}
 use Rattle.listing.proofs.list.Tie as tie
@@ -49,12 +49,12 @@ accepted c =
 
 -- the samples that are lent are the record's
 lent : (c : tie.After-samples2) → let read = c.before.before.before.before.before in let size = read.record-answer.result.size in
-    take (size * size * (size + 1)) c.before.copy-samples.new.1.0 ≡ samplesOf read.before.before.before.args.bytes.now
+    take (size * size * (size + 1)) c.before.copy-samples.new.1.0 ≡ samples_of read.before.before.before.args.bytes.now
 lent c =
     let read = c.before.before.before.before.before in
     let size = read.record-answer.result.size in
     let bytes = read.before.before.before.args.bytes.now in
-    let room = sampleCount-le size (accepted c).most in
+    let room = sample_count-le size (accepted c).most in
     ap (take (size * size * (size + 1))) c.before.copy-samples.ensures
     ∙ lent-samples bytes (replicate 392 (of_bits binary32 0)) (size * size * (size + 1)) (accepted c).samples (omega (arith, room))
 
@@ -65,11 +65,11 @@ add-count : tie.Need-overflow-add-count
 add-count c = search rules
 
 mul-count-2 : tie.Need-overflow-mul-count-2
-mul-count-2 c = let count = sampleCount-le _ (accepted c.before).most in record { fits = omega (arith, count) }
+mul-count-2 c = let count = sample_count-le _ (accepted c.before).most in record { fits = omega (arith, count) }
 
 array-share-prefix-samples : tie.Need-array-share-prefix-samples
 array-share-prefix-samples c =
-    let room = sampleCount-le _ (accepted c.before.before).most in
+    let room = sample_count-le _ (accepted c.before.before).most in
     omega (arith, room, c.before.before.before.copy-samples.auto.1.0)
 
 slice-aggregate-list-grid : tie.Need-slice-aggregate-list-grid

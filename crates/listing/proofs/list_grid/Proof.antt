@@ -7,8 +7,8 @@ use lib.ListN.{length, replicate, length-replicate}
 use lib.Ieee.{Float, of_bits, binary32}
 use Rattle.outcome.specs.Outcome.{Outcome, left, outcome}
 use Rattle.listing_words.specs.Put.{Put}
-use Rattle.listing_text.specs.Lines.{refusedLine}
-use Rattle.listing.specs.Listing.{gridText}
+use Rattle.listing_text.specs.Lines.{refused_line}
+use Rattle.listing.specs.Listing.{grid_text}
 use Rattle.listing.proofs.Room.{text-le}
 use Rattle.listing.proofs.Mesh.{own-refused, own-mesh, own_room}
 use borrow.Author.Rules.{rules}
@@ -59,7 +59,7 @@ returns c =
     let made = refused.before.before.before.before.before in
     let start = made.before.before.before.before.before.before in
     let given = start.requires.0 in
-    let owed : gridText start.args.size start.args.numbering start.args.samples.now ≡ refusedLine made.extract.result.cause made.extract.result.place =
+    let owed : grid_text start.args.size start.args.numbering start.args.samples.now ≡ refused_line made.extract.result.cause made.extract.result.place =
     own-refused start.args.size start.args.numbering start.args.samples.now given.0 given.1 given.2 given.3 (outcome-of made) (outcome-known made) refused.if1.true in (
       subst (λ (piece : List ℕ). Put start.args.text.now 0 piece put.Put-refused.new.0 put.Put-refused.result) (sym owed) put.Put-refused.ensures.0,
       omega (arith, put.Put-refused.ensures.1),

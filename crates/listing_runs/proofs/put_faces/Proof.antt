@@ -6,14 +6,14 @@ use native.Mathlib.Omega.{arith}
 use borrow.Author.Rules.{rules}
 use lib.ListN.{length}
 use Rattle.listing_words.specs.Put.{Put}
-use Rattle.listing_runs.specs.Runs.{lines_of, faceLineAt}
+use Rattle.listing_runs.specs.Runs.{lines_of, face_line_at}
 use Rattle.listing_runs.proofs.Runs.{put-line}
 use Rattle.listing_runs.proofs.put_faces.Statement.{statement}
 use Rattle.listing_runs.proofs.put_faces.Tie as tie
 
 abbrev invariant-loop : tie.invariant-loop
 invariant-loop text₀ at indices count next₀ i₀ text next i =
-    (i ≤ count) × (length text ≡ length text₀) × (next ≤ at + 65 * i) × Put text₀ at (lines_of i (faceLineAt indices)) text next
+    (i ≤ count) × (length text ≡ length text₀) × (next ≤ at + 65 * i) × Put text₀ at (lines_of i (face_line_at indices)) text next
 
 abbrev decreases-loop : tie.decreases-loop
 decreases-loop text₀ at indices count next₀ i₀ text next i = count - i
@@ -73,7 +73,7 @@ loop-again c =
       omega (arith, c.before.before.before.before.before.before.before.loop-test.true),
       c.before.text.given ∙ inv.1,
       omega (arith, inv.2, put.put-face.ensures.1),
-      put-line (faceLineAt turn.before.before.before.args.indices.now) turn.loop.i inv.3 put.put-face.ensures.0,
+      put-line (face_line_at turn.before.before.before.args.indices.now) turn.loop.i inv.3 put.put-face.ensures.0,
     )
 
 same_length : tie.Need-same-length invariant-loop decreases-loop
@@ -84,7 +84,7 @@ returns c =
     let turn = c.before in
     let start = turn.before.before.before in
     let all : turn.loop.i ≡ start.args.count = omega (arith, turn.loop.invariant.0, c.loop-test.false) in (
-      subst (λ (k : ℕ). Put start.args.text.now start.args.at (lines_of k (faceLineAt start.args.indices.now)) turn.loop.text turn.loop.next) all turn.loop.invariant.3,
+      subst (λ (k : ℕ). Put start.args.text.now start.args.at (lines_of k (face_line_at start.args.indices.now)) turn.loop.text turn.loop.next) all turn.loop.invariant.3,
       omega (arith, all, turn.loop.invariant.2),
     )
 

@@ -3,7 +3,7 @@ use mathlib.Core.Path.{ap, ◌∙◌}
 use Prim.Native.Nat.{ℕ, ◌+◌, ◌-◌, ◌<◌, ◌≤◌}
 use native.Mathlib.Nat.{pos_of_ne-zero}
 use native.Mathlib.Omega.{arith}
-use Rattle.listing_words.proofs.Digits.{placesWithin-none, placesWithin-one, placesWithin-ten}
+use Rattle.listing_words.proofs.Digits.{places_within-none, places_within-one, places_within-ten}
 use borrow.Fn.Kinds.{In}
 use borrow.Fn.PlainCycle.{Measures, is, falls, and}
 use Rattle.listing_words.proofs.places_within.Reads as places-within
@@ -31,13 +31,13 @@ places-within-returns : (t : ℕ) → places-within-lts.Need-returns (
   places-within-below t,
   places-within.Post,
 ) (places-within-at t) places-within.Post
-places-within-returns t c = (placesWithin-none _ _ c.if1.true, omega arith)
+places-within-returns t c = (places_within-none _ _ c.if1.true, omega arith)
 
 places-within-returns-2 : (t : ℕ) → places-within-lts.Need-returns-2 (
   places-within-below t,
   places-within.Post,
 ) (places-within-at t) places-within.Post
-places-within-returns-2 t c = (placesWithin-one c.before.before.args.more c.before.before.args.n c.if2.true, omega arith)
+places-within-returns-2 t c = (places_within-one c.before.before.args.more c.before.before.args.n c.if2.true, omega arith)
 
 places-within-sub-places-within : (t : ℕ) → places-within-lts.Need-overflow-sub-places-within (
   places-within-below t,
@@ -67,7 +67,7 @@ places-within-returns-3 : (t : ℕ) → places-within-lts.Need-returns-3 (
 places-within-returns-3 t c =
     let start = c.before.before.before in
     let some : 1 ≤ start.args.more = pos_of_ne-zero c.before.before.if1.false in (
-      ap (λ (k : ℕ). 1 + k) c.places-within.ensures.0 ∙ placesWithin-ten start.args.more start.args.n c.before.before.if1.false c.before.if2.false,
+      ap (λ (k : ℕ). 1 + k) c.places-within.ensures.0 ∙ places_within-ten start.args.more start.args.n c.before.before.if1.false c.before.if2.false,
       omega (arith, some, c.places-within.ensures.1),
     )
 

@@ -5,7 +5,7 @@ use native.Mathlib.Omega.{arith}
 use lib.ListN.{set, length-set}
 use lib.Ieee.{binary32, to_bits}
 use Rattle.listing_words.specs.Put.{Put}
-use Rattle.listing_words.specs.Digits.{digits, floatWord}
+use Rattle.listing_words.specs.Digits.{digits, float_word}
 use Rattle.listing_words.proofs.Putting.{put-after}
 use borrow.Author.Rules.{rules}
 use Rattle.listing_words.proofs.put_float.Statement.{statement}
@@ -30,7 +30,7 @@ same_length : tie.Need-same-length
 same_length c = c.before.before.put-digits.auto.0 ∙ length-set c.before.before.before.before.before.before.args.text.now c.before.before.before.before.before.before.args.at 32
 
 returns : tie.Need-returns
-unfolding floatWord
+unfolding float_word
 returns c =
     let put = c.before.before in
     let start = put.before.before.before.before in

@@ -4,7 +4,7 @@ use Prim.Native.Nat.{ℕ, ◌+◌}
 use native.Mathlib.Omega.{arith}
 use lib.ListN.{set, length-set}
 use Rattle.listing_words.specs.Put.{Put}
-use Rattle.listing_words.specs.Digits.{digits, decimal, numberWord}
+use Rattle.listing_words.specs.Digits.{digits, decimal, number_word}
 use Rattle.listing_words.proofs.Putting.{put-after}
 use borrow.Author.Rules.{rules}
 use Rattle.listing_words.proofs.put_number.Statement.{statement}
@@ -26,7 +26,7 @@ same_length : tie.Need-same-length
 same_length c = c.before.before.put-digits.auto.0 ∙ length-set c.before.before.before.before.before.before.args.text.now c.before.before.before.before.before.before.args.at 32
 
 returns : tie.Need-returns
-unfolding numberWord
+unfolding number_word
 returns c =
     let put = c.before.before in
     let counted = put.before.before in

@@ -8,10 +8,10 @@ use lib.ListN.{length}
 use lib.Ieee.{Float}
 use borrow.Author.Rules.{rules}
 use borrow.Author.Tests.{ltb-true, ltb-false}
-use Rattle.sample_check.specs.Samples.{lowestBad}
-use Rattle.sample_check.proofs.Samples.{anyBad-lowestBad}
+use Rattle.sample_check.specs.Samples.{lowest_bad}
+use Rattle.sample_check.proofs.Samples.{any_bad-lowest_bad}
 use Rattle.outcome.specs.declared.Answer.{Answer}
-use Rattle.outcome.specs.Outcome.{Outcome, left, filled, surfaceOf}
+use Rattle.outcome.specs.Outcome.{Outcome, left, filled, surface_of}
 use Rattle.passes.proofs.Sizes.{square_le, samples-le}
 use Rattle.marching_cubes.proofs.ByCause.{size-under, size-over, numbering-over, samples-not-whole, work-short, sample-bad, accepted}
 use Rattle.marching_cubes.proofs.extract.Statement.{statement}
@@ -108,8 +108,8 @@ returns-6 c =
     let a = start.args in
     let room = roomed.work-room.ensures in
     let enough = checked.before.if5.false in
-    let found = sym (anyBad-lowestBad a.samples.now) ∙ sym checked.any-bad.ensures ∙ c.before.before.if6.true in
-    let bad = ltb-true (lowestBad a.samples.now) (length a.samples.now) found in
+    let found = sym (any_bad-lowest_bad a.samples.now) ∙ sym checked.any-bad.ensures ∙ c.before.before.if6.true in
+    let bad = ltb-true (lowest_bad a.samples.now) (length a.samples.now) found in
     answered c.refused6.result _ a.work.now a.vertices.now a.indices.now _
     (c.refused6.ensures ∙ ap (λ (place : ℕ). record { cause = 5; place = place; vertices = 0; indices = 0 }) c.before.lowest-bad.ensures)
     (sample-bad a.size a.numbering a.samples.now a.work.now a.vertices.now a.indices.now
@@ -143,9 +143,9 @@ returns-7 c =
     let a = start.args in
     let room = roomed.work-room.ensures in
     let enough = checked.before.if5.false in
-    let none = sym (anyBad-lowestBad a.samples.now) ∙ sym checked.any-bad.ensures ∙ called.before.before.before.before.if6.false in
-    let good = ltb-false (lowestBad a.samples.now) (length a.samples.now) none in
-    let surface = surfaceOf a.size a.numbering a.samples.now in
+    let none = sym (any_bad-lowest_bad a.samples.now) ∙ sym checked.any-bad.ensures ∙ called.before.before.before.before.if6.false in
+    let good = ltb-false (lowest_bad a.samples.now) (length a.samples.now) none in
+    let surface = surface_of a.size a.numbering a.samples.now in
     filled-by _ _ (filled a.size a.numbering a.samples.now a.work.now a.vertices.now a.indices.now surface) called.meshed.ensures
     (accepted a.size a.numbering a.samples.now a.work.now a.vertices.now a.indices.now
     whole.before.before.before.if1.false whole.before.before.if2.false whole.before.if3.false whole.if4.false (omega (arith, room, enough)) good)

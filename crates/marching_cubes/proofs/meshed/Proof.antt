@@ -4,7 +4,7 @@ use Prim.Native.Nat.{ℕ}
 use native.Mathlib.Omega.{arith}
 use lib.ListN.{length}
 use borrow.Author.Rules.{rules}
-use Rattle.outcome.specs.Outcome.{workRoom, surfaceOf}
+use Rattle.outcome.specs.Outcome.{work_room, surface_of}
 use Rattle.marching_cubes.proofs.ByCause.{vertices-left, indices-left, done-left}
 use Rattle.marching_cubes.proofs.AfterCount.{cleared-again, cleared-zeros, over_none, over-no-floats}
 use Rattle.marching_cubes.proofs.meshed.Statement.{statement}
@@ -29,7 +29,7 @@ returns : tie.Need-returns
 returns c =
     let found = c.before.before.before.before.before.before.count.ensures in
     let args = c.before.before.before.before.before.before.before.before.before.before.before.before.args in
-    let s = surfaceOf args.n args.numbering args.samples.now in
+    let s = surface_of args.n args.numbering args.samples.now in
     vertices-left args.n args.numbering args.samples.now args.work.now args.vertices.now args.indices.now s _ _ c.counted.result _
     found.1.0.0 found.1.0.1 c.counted.ensures found.0 c.before.if1.true
 
@@ -46,7 +46,7 @@ returns-2 : tie.Need-returns-2
 returns-2 c =
     let found = c.before.before.before.before.before.before.before.before.count.ensures in
     let args = c.before.before.before.before.before.before.before.before.before.before.before.before.before.before.args in
-    let s = surfaceOf args.n args.numbering args.samples.now in
+    let s = surface_of args.n args.numbering args.samples.now in
     indices-left args.n args.numbering args.samples.now args.work.now args.vertices.now args.indices.now s _ _ c.counted2.result _
     found.1.0.0 found.1.0.1 c.counted2.ensures found.0 c.before.before.before.if1.false c.before.if2.true
 
@@ -61,7 +61,7 @@ returns-3 : tie.Need-returns-3
 returns-3 c =
     let found = c.before.before.before.before.before.before.before.before.before.before.count.ensures in
     let args = c.before.before.before.before.before.before.before.before.before.before.before.before.before.before.before.before.args in
-    let s = surfaceOf args.n args.numbering args.samples.now in
+    let s = surface_of args.n args.numbering args.samples.now in
     let none = c.before.if3.true in
     let fewer = found.1.1.1.1 in
     let made = found.1.0.0 in
@@ -84,7 +84,7 @@ fill-requires c κs =
     let same = c.before.before.before.before.before.before.before.before.before.before.before.work.given in (
       (
         record { least = pre.least; most = pre.most; samples-whole = pre.samples-whole; work-room = omega (arith, pre.work-room, same) },
-        cleared-zeros (workRoom start.args.n) start.args.work.now _ found.0,
+        cleared-zeros (work_room start.args.n) start.args.work.now _ found.0,
       ),
       (found.1.1.0, (omega (arith, made, floats), omega (arith, written, words))),
     )
@@ -104,7 +104,7 @@ same-length-6 c = c.before.before.indices.given
 returns-4 : tie.Need-returns-4
 returns-4 c =
     let args = c.before.before.before.before.before.before.before.before.before.before.before.before.before.before.before.before.before.before.before.before.before.before.before.before.before.before.args in
-    let s = surfaceOf args.n args.numbering args.samples.now in
+    let s = surface_of args.n args.numbering args.samples.now in
     let found = c.before.before.before.before.before.before.before.before.before.before.before.before.before.before.before.before.before.before.before.before.count.ensures in
     let filled = c.before.before.before.before.before.before.before.fill.ensures in
     let made = found.1.0.0 in
@@ -112,7 +112,7 @@ returns-4 c =
     let floats = c.before.before.before.before.before.before.before.before.before.before.before.before.before.before.before.if1.false in
     let words = c.before.before.before.before.before.before.before.before.before.before.before.before.before.if2.false in
     done-left args.n args.numbering args.samples.now args.work.now args.vertices.now args.indices.now s _ _ c.counted4.result _ _ _
-    made written c.counted4.ensures (cleared-again (workRoom args.n) args.work.now _ _ found.0 filled.0) filled.1.0 filled.1.1
+    made written c.counted4.ensures (cleared-again (work_room args.n) args.work.now _ _ found.0 filled.0) filled.1.0 filled.1.1
     (omega (arith, made, floats)) (omega (arith, written, words))
 
 pub meshed-spec : {M : Type 1} → statement M

@@ -5,8 +5,8 @@ use Prim.Native.Nat.{ℕ}
 use lib.IntN.{ℤ}
 use lib.Ieee.{Float}
 use borrow.Author.Rules.{rules}
-use Rattle.marching_cubes_tables.specs.Rule.{rowEdges}
-use Rattle.marching_cubes_impl.specs.Signs.{signByte}
+use Rattle.marching_cubes_tables.specs.Rule.{row_edges}
+use Rattle.marching_cubes_impl.specs.Signs.{sign_byte}
 use Rattle.marching_cubes_impl.specs.Cell.{padded, cell_of}
 use Rattle.marching_cubes_impl.proofs.march_cube.Statement.{statement}
 use Rattle.marching_cubes_impl.proofs.march_cube.Tie as tie
@@ -21,7 +21,7 @@ row-edges-requires : tie.Need-row-edges-requires
 row-edges-requires c κs = search rules
 
 -- over plain variables: among the records of the walk the two equations are dear to join
-both-fields : (values : List Float) (signs : ℕ) (edges : List ℤ) → signs ≡ signByte values → edges ≡ padded 16 (rowEdges signs)
+both-fields : (values : List Float) (signs : ℕ) (edges : List ℤ) → signs ≡ sign_byte values → edges ≡ padded 16 (row_edges signs)
     → record { signs = signs; edges = edges } ≡ cell_of values
 both-fields values signs edges p q = cc
 

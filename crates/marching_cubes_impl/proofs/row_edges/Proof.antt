@@ -13,21 +13,21 @@ use mir.Val.{to_z, of_z}
 use mir.ValLaws.{to_z-of_z}
 use borrow.Author.Rules.{rules}
 use Rattle.marching_cubes_tables.specs.Tables.{row}
-use Rattle.marching_cubes_tables.specs.Rule.{rowEdges}
+use Rattle.marching_cubes_tables.specs.Rule.{row_edges}
 use Rattle.marching_cubes_tables.proofs.Rule.{row-rule}
 use Rattle.marching_cubes_impl.specs.Cell.{padded}
-use Rattle.marching_cubes_impl.proofs.Row.{padded-set, rowEdges-end, rowEdges-next}
+use Rattle.marching_cubes_impl.proofs.Row.{padded-set, row_edges-end, row_edges-next}
 use Rattle.marching_cubes_impl.proofs.row_edges.Statement.{statement}
 use Rattle.marching_cubes_impl.proofs.row_edges.Tie as tie
 
 abbrev invariant-loop : tie.invariant-loop
-invariant-loop table signs row edges₀ i j₀ edges j = (j ≤ 3) × (3 * i + j ≤ length (rowEdges signs)) × (edges ≡ padded 16 (take (3 * i + j) (rowEdges signs)))
+invariant-loop table signs row edges₀ i j₀ edges j = (j ≤ 3) × (3 * i + j ≤ length (row_edges signs)) × (edges ≡ padded 16 (take (3 * i + j) (row_edges signs)))
 
 abbrev decreases-loop : tie.decreases-loop
 decreases-loop table signs row edges₀ i j₀ edges j = 3 - j
 
 abbrev invariant-row : tie.invariant-row
-invariant-row table signs row edges₀ i₀ edges i = (i ≤ 5) × (3 * i ≤ length (rowEdges signs)) × (edges ≡ padded 16 (take (3 * i) (rowEdges signs)))
+invariant-row table signs row edges₀ i₀ edges i = (i ≤ 5) × (3 * i ≤ length (row_edges signs)) × (edges ≡ padded 16 (take (3 * i) (row_edges signs)))
 
 abbrev decreases-row : tie.decreases-row
 decreases-row table signs row edges₀ i₀ edges i = 5 - i
@@ -40,14 +40,14 @@ same c = to_z-of_z w8 c.triangle.result (record { sfits = c.triangle.type-inv })
 next : (c : tie.Else1 invariant-loop decreases-loop invariant-row decreases-row)
     → let signs = c.before.before.before.before.before.before.args.signs in
     let place = 3 * c.before.before.before.before.before.row.i + c.before.before.before.loop.j in
-    (place < length (rowEdges signs)) × (c.before.triangle.result ≡ pos (get_or (rowEdges signs) place 0))
+    (place < length (row_edges signs)) × (c.before.triangle.result ≡ pos (get_or (row_edges signs) place 0))
 next c =
     let at-loop = c.before.before.before in
     let signs = at-loop.before.before.before.args.signs in
     let place = 3 * at-loop.before.before.row.i + at-loop.loop.j in
     let entry = c.before.triangle.result in
     let left : lt_z (to_z w8 (of_z w8 entry)) (pos 0) ≡ false = c.if1.false in
-    rowEdges-next signs place entry (search rules) (omega arith) c.before.triangle.ensures (subst (λ (y : ℤ). lt_z y (pos 0) ≡ false) (same c.before) left)
+    row_edges-next signs place entry (search rules) (omega arith) c.before.triangle.ensures (subst (λ (y : ℤ). lt_z y (pos 0) ≡ false) (same c.before) left)
 
 row-holds : tie.Need-row-init invariant-loop decreases-loop invariant-row decreases-row
 row-holds c = search rules
@@ -81,10 +81,10 @@ loop-again c =
     let signs = at-loop.before.before.before.args.signs in
     let i = at-loop.before.before.row.i in
     let j = at-loop.loop.j in
-    let within : 3 * i + j < length (rowEdges signs) = (next c).0 in
+    let within : 3 * i + j < length (row_edges signs) = (next c).0 in
     let up : 3 * i + (j + 1) ≡ 3 * i + j + 1 = omega arith in
-    let stored : to_z w8 (of_z w8 c.before.triangle.result) ≡ pos (get_or (rowEdges signs) (3 * i + j) 0) = same c.before ∙ (next c).1 in
-    (omega arith, omega arith, rw (at-loop.loop.invariant.2, stored, up, add-one) (padded-set 16 (rowEdges signs) (3 * i + j) within (omega arith)))
+    let stored : to_z w8 (of_z w8 c.before.triangle.result) ≡ pos (get_or (row_edges signs) (3 * i + j) 0) = same c.before ∙ (next c).1 in
+    (omega arith, omega arith, rw (at-loop.loop.invariant.2, stored, up, add-one) (padded-set 16 (row_edges signs) (3 * i + j) within (omega arith)))
 
 add-i : tie.Need-overflow-add-i invariant-loop decreases-loop invariant-row decreases-row
 add-i c = search rules
@@ -101,8 +101,8 @@ row-again c =
 returns : tie.Need-returns invariant-loop decreases-loop invariant-row decreases-row
 returns c =
     let signs = c.before.before.args.signs in
-    let most : length (rowEdges signs) ≤ 15 = (row-rule signs (search rules)).most in
-    let all : 3 * c.before.row.i ≡ length (rowEdges signs) = omega arith in
+    let most : length (row_edges signs) ≤ 15 = (row-rule signs (search rules)).most in
+    let all : 3 * c.before.row.i ≡ length (row_edges signs) = omega arith in
     c.before.row.invariant.2 ∙ rw (all, take-length)
 
 returns-2 : tie.Need-returns-2 invariant-loop decreases-loop invariant-row decreases-row
@@ -112,8 +112,8 @@ returns-2 c =
     let place = 3 * at-loop.before.before.row.i + at-loop.loop.j in
     let entry = c.before.triangle.result in
     let taken : lt_z (to_z w8 (of_z w8 entry)) (pos 0) ≡ true = c.if1.true in
-    let all : place ≡ length (rowEdges signs) =
-    rowEdges-end signs place entry (search rules) (omega arith) c.before.triangle.ensures (omega arith) (subst (λ (y : ℤ). lt_z y (pos 0) ≡ true) (same c.before) taken) in
+    let all : place ≡ length (row_edges signs) =
+    row_edges-end signs place entry (search rules) (omega arith) c.before.triangle.ensures (omega arith) (subst (λ (y : ℤ). lt_z y (pos 0) ≡ true) (same c.before) taken) in
     at-loop.loop.invariant.2 ∙ rw (all, take-length)
 
 pub row-edges-spec : {M : Type 1} → statement M

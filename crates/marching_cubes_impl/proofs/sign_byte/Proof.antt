@@ -6,13 +6,13 @@ use mathlib.Core.Path.{◌≡◌, refl, ◌∙◌, ap}
 use Prim.Native.Nat.{ℕ, ◌-◌, ◌≤◌, ◌<◌}
 use lib.ListN.{take, length}
 use borrow.Author.Rules.{rules}
-use Rattle.marching_cubes_impl.specs.Signs.{signByte}
+use Rattle.marching_cubes_impl.specs.Signs.{sign_byte}
 use Rattle.marching_cubes_impl.proofs.Signs.{turn_in, turn-out}
 use Rattle.marching_cubes_impl.proofs.sign_byte.Statement.{statement}
 use Rattle.marching_cubes_impl.proofs.sign_byte.Tie as tie
 
 abbrev invariant-loop : tie.invariant-loop
-invariant-loop values signs₀ i₀ signs i = (i ≤ 8) × (signs ≡ signByte (take i values))
+invariant-loop values signs₀ i₀ signs i = (i ≤ 8) × (signs ≡ sign_byte (take i values))
 
 abbrev decreases-loop : tie.decreases-loop
 decreases-loop values signs₀ i₀ signs i = 8 - i

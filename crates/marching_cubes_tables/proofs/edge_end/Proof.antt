@@ -1,7 +1,7 @@
 -- `marching_cubes_tables::edge_end`: the constant is the list of specs/, by computation.
 use mathlib.Core.Path.{refl}
 use borrow.Author.Rules.{rules}
-use Rattle.marching_cubes_tables.specs.Tables.{edgeConnection}
+use Rattle.marching_cubes_tables.specs.Tables.{edge_connection}
 use Rattle.marching_cubes_tables.proofs.edge_end.Statement.{statement}
 use Rattle.marching_cubes_tables.proofs.edge_end.Tie as tie
 
@@ -18,7 +18,7 @@ index-2-result : tie.Need-bounds-2-result
 index-2-result c = search rules
 
 returns : tie.Need-returns
-unfolding edgeConnection
+unfolding edge_connection
 returns c = refl
 
 pub edge-end-spec : {M : Type 1} → statement M

@@ -6,7 +6,7 @@ use lib.ListN.{get_or}
 use lib.IntN.{ℤ, pos}
 use mir.Syntax.{w8}
 use mir.ValLaws.{to_z-of_z}
-use Rattle.marching_cubes_tables.specs.Tables.{triangleConnection, flat, triangleTable}
+use Rattle.marching_cubes_tables.specs.Tables.{triangle_connection, flat, triangle_table}
 use Rattle.marching_cubes_tables.proofs.Rows.{flat-at}
 use borrow.Author.Rules.{rules}
 use Rattle.marching_cubes_tables.proofs.triangle.Statement.{statement}
@@ -22,13 +22,13 @@ element-copy-out-result : tie.Need-element-copy-out-result
 element-copy-out-result c = search rules
 
 returns : tie.Need-returns
-unfolding triangleTable
+unfolding triangle_table
 returns c =
     let a = c.before.args in
-    let e : a.table.now ≡ flat triangleConnection = c.before.requires.0 in
+    let e : a.table.now ≡ flat triangle_connection = c.before.requires.0 in
     to_z-of_z w8 (get_or a.table.now (16 * a.s + a.k) (pos 0)) (record { sfits = c.result.given })
     ∙ (ap (λ (l : List ℤ). get_or l (16 * a.s + a.k) (pos 0)) e
-    ∙ flat-at 16 (pos 0) triangleConnection tt a.s a.k (search rules) (search rules))
+    ∙ flat-at 16 (pos 0) triangle_connection tt a.s a.k (search rules) (search rules))
 
 pub triangle-spec : {M : Type 1} → statement M
 triangle-spec = tie.close (tie.spec mul-result add-result element-copy-out-result returns)

@@ -1,7 +1,7 @@
 -- `contents_in`: the vertices are searched before the indices, which lie after them.
 use mathlib.Core.Path.{◌∙◌}
 use native.Mathlib.Omega.{arith}
-use Rattle.mesh_checks.proofs.Contents.{contentsIn-coordinate, contentsIn-index, contentsIn-passed}
+use Rattle.mesh_checks.proofs.Contents.{contents_in-coordinate, contents_in-index, contents_in-passed}
 use borrow.Author.Rules.{rules}
 use Rattle.mesh_checks.proofs.contents_in.Statement.{statement}
 use Rattle.mesh_checks.proofs.contents_in.Tie as tie
@@ -32,7 +32,7 @@ returns c =
     let search-coordinates = c.before.before in
     let start = search-coordinates.before.before.before in
     c.refused.ensures
-    ∙ contentsIn-coordinate start.args.bytes.now start.requires search-coordinates.before.word_at.result search-coordinates.lowest-infinite.result
+    ∙ contents_in-coordinate start.args.bytes.now start.requires search-coordinates.before.word_at.result search-coordinates.lowest-infinite.result
     search-coordinates.before.word_at.ensures search-coordinates.lowest-infinite.ensures (omega arith)
 
 word-at-requires-2 : tie.Need-word-at-requires-2
@@ -65,7 +65,7 @@ returns-2 c =
     let search-coordinates = search-indices.before.before.before in
     let start = search-coordinates.before.before.before in
     c.refused2.ensures
-    ∙ contentsIn-index start.args.bytes.now start.requires search-coordinates.before.word_at.result search-coordinates.lowest-infinite.result
+    ∙ contents_in-index start.args.bytes.now start.requires search-coordinates.before.word_at.result search-coordinates.lowest-infinite.result
     search-coordinates.before.word_at.ensures search-coordinates.lowest-infinite.ensures search-indices.before.word-at2.result search-indices.lowest-beyond.result
     search-indices.before.word-at2.ensures (omega arith) search-indices.lowest-beyond.ensures (omega arith)
 
@@ -78,7 +78,7 @@ returns-3 c =
     let search-coordinates = search-indices.before.before.before in
     let start = search-coordinates.before.before.before in
     c.refused3.ensures
-    ∙ contentsIn-passed start.args.bytes.now start.requires search-coordinates.before.word_at.result search-coordinates.lowest-infinite.result
+    ∙ contents_in-passed start.args.bytes.now start.requires search-coordinates.before.word_at.result search-coordinates.lowest-infinite.result
     search-coordinates.before.word_at.ensures search-coordinates.lowest-infinite.ensures search-indices.before.word-at2.result search-indices.lowest-beyond.result
     search-indices.before.word-at2.ensures (omega arith) search-indices.lowest-beyond.ensures (omega arith)
 

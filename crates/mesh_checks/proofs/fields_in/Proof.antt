@@ -1,7 +1,7 @@
 -- `fields_in`: the checks in the order of the definition.
 use mathlib.Core.Path.{◌∙◌}
 use native.Mathlib.Omega.{arith}
-use Rattle.mesh_checks.proofs.Checks.{fieldsIn-vertices, fieldsIn-count, fieldsIn-indices, fieldsIn-length, fieldsIn-passed}
+use Rattle.mesh_checks.proofs.Checks.{fields_in-vertices, fields_in-count, fields_in-indices, fields_in-length, fields_in-passed}
 use borrow.Author.Rules.{rules}
 use Rattle.mesh_checks.proofs.fields_in.Statement.{statement}
 use Rattle.mesh_checks.proofs.fields_in.Tie as tie
@@ -27,7 +27,7 @@ refused-requires c κs = search rules
 returns : tie.Need-returns
 returns c =
     let start = c.before.before.before.before.before.before in
-    c.refused.ensures ∙ fieldsIn-vertices start.args.bytes.now (λ e. omega arith)
+    c.refused.ensures ∙ fields_in-vertices start.args.bytes.now (λ e. omega arith)
 
 refused-requires-2 : tie.Need-refused-requires-2
 refused-requires-2 c κs = search rules
@@ -35,7 +35,7 @@ refused-requires-2 c κs = search rules
 returns-2 : tie.Need-returns-2
 returns-2 c =
     let start = c.before.before.before.before.before.before.before in
-    c.refused2.ensures ∙ fieldsIn-count start.args.bytes.now (omega arith) (λ e. omega arith)
+    c.refused2.ensures ∙ fields_in-count start.args.bytes.now (omega arith) (λ e. omega arith)
 
 word-at-requires-4 : tie.Need-word-at-requires-4
 word-at-requires-4 c κs = search rules
@@ -55,7 +55,7 @@ refused-requires-3 c κs = search rules
 returns-3 : tie.Need-returns-3
 returns-3 c =
     let start = c.before.before.before.before.before.before.before.before.before in
-    c.refused3.ensures ∙ fieldsIn-indices start.args.bytes.now (omega arith) (omega arith) (λ e. omega arith)
+    c.refused3.ensures ∙ fields_in-indices start.args.bytes.now (omega arith) (omega arith) (λ e. omega arith)
 
 mul-if4 : tie.Need-overflow-mul-if4
 mul-if4 c = search rules
@@ -75,7 +75,7 @@ refused-requires-4 c κs = search rules
 returns-4 : tie.Need-returns-4
 returns-4 c =
     let start = c.before.before.before.before.before.before.before.before.before.before in
-    c.refused4.ensures ∙ fieldsIn-length start.args.bytes.now (omega arith) (omega arith) (omega arith) (λ e. omega arith)
+    c.refused4.ensures ∙ fields_in-length start.args.bytes.now (omega arith) (omega arith) (omega arith) (λ e. omega arith)
 
 refused-requires-5 : tie.Need-refused-requires-5
 refused-requires-5 c κs = search rules
@@ -83,7 +83,7 @@ refused-requires-5 c κs = search rules
 returns-5 : tie.Need-returns-5
 returns-5 c =
     let start = c.before.before.before.before.before.before.before.before.before.before in
-    c.refused5.ensures ∙ fieldsIn-passed start.args.bytes.now (omega arith) (omega arith) (omega arith) (omega arith)
+    c.refused5.ensures ∙ fields_in-passed start.args.bytes.now (omega arith) (omega arith) (omega arith) (omega arith)
 
 pub fields-in-spec : {M : Type 1} → statement M
 fields-in-spec =

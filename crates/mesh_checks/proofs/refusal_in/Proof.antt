@@ -4,7 +4,7 @@ use Prim.Native.Nat.{◌≤◌}
 use native.Mathlib.Omega.{arith}
 use lib.ListN.{length}
 use Rattle.mesh_record.specs.declared.Refusal.{Refusal}
-use Rattle.mesh_checks.proofs.Passed.{refusalIn-short, refusalIn-opening, refusalIn-fields, refusalIn-contents, fieldsIn-known}
+use Rattle.mesh_checks.proofs.Passed.{refusal_in-short, refusal_in-opening, refusal_in-fields, refusal_in-contents, fields_in-known}
 use borrow.Author.Rules.{rules}
 use Rattle.mesh_checks.proofs.refusal_in.Statement.{statement}
 use Rattle.mesh_checks.proofs.refusal_in.Tie as tie
@@ -18,7 +18,7 @@ refused-requires c κs = search rules
 returns : tie.Need-returns
 returns c =
     let start = c.before.before.before in
-    c.refused.ensures ∙ refusalIn-short start.args.bytes.now (omega arith)
+    c.refused.ensures ∙ refusal_in-short start.args.bytes.now (omega arith)
 
 word-at-requires : tie.Need-word-at-requires
 word-at-requires c κs = search rules
@@ -38,7 +38,7 @@ returns-2 c =
     let third = opened.before in
     let else = third.before.before.before in
     let start = else.before.before in
-    refusalIn-opening start.args.bytes.now (long else) third.before.before.word_at.result third.before.word-at2.result third.word-at3.result opened.opening.result
+    refusal_in-opening start.args.bytes.now (long else) third.before.before.word_at.result third.before.word-at2.result third.word-at3.result opened.opening.result
     third.before.before.word_at.ensures third.before.word-at2.ensures third.word-at3.ensures opened.opening.ensures c.if2.true
 
 fields-in-requires : tie.Need-fields-in-requires
@@ -51,14 +51,14 @@ returns-3 c =
     let third = opened.before in
     let else = third.before.before.before in
     let start = else.before.before in
-    refusalIn-fields start.args.bytes.now (long else) third.before.before.word_at.result third.before.word-at2.result third.word-at3.result opened.opening.result
+    refusal_in-fields start.args.bytes.now (long else) third.before.before.word_at.result third.before.word-at2.result third.word-at3.result opened.opening.result
     third.before.before.word_at.ensures third.before.word-at2.ensures third.word-at3.ensures opened.opening.ensures fields.before.if2.false
     fields.fields_in.result fields.fields_in.ensures c.if3.true
 
 contents-in-requires : tie.Need-contents-in-requires
 contents-in-requires c κs =
     let fields = c.before.before in
-    (fieldsIn-known fields.before.before.before.before.before.before.before.before.before.args.bytes.now
+    (fields_in-known fields.before.before.before.before.before.before.before.before.before.args.bytes.now
     (sym (ap (λ (r : Refusal). r.cause) fields.fields_in.ensures) ∙ c.if3.false)).whole
 
 returns-4 : tie.Need-returns-4
@@ -68,7 +68,7 @@ returns-4 c =
     let third = opened.before in
     let else = third.before.before.before in
     let start = else.before.before in
-    refusalIn-contents start.args.bytes.now (long else) third.before.before.word_at.result third.before.word-at2.result third.word-at3.result opened.opening.result
+    refusal_in-contents start.args.bytes.now (long else) third.before.before.word_at.result third.before.word-at2.result third.word-at3.result opened.opening.result
     third.before.before.word_at.ensures third.before.word-at2.ensures third.word-at3.ensures opened.opening.ensures fields.before.if2.false
     fields.fields_in.result fields.fields_in.ensures c.before.if3.false c.contents-in.result c.contents-in.ensures
 

@@ -2,7 +2,7 @@
 use mathlib.Core.Path.{sym, ap, ◌∙◌}
 use Rattle.mesh_record.specs.declared.Refusal.{Refusal}
 use Rattle.mesh_read.specs.Reading.{left, refused}
-use Rattle.mesh_checks.proofs.Passed.{refusalIn-known}
+use Rattle.mesh_checks.proofs.Passed.{refusal_in-known}
 use Rattle.mesh_read.proofs.Copies.{reading-refused, reading-passed}
 use borrow.Author.Rules.{rules}
 use Rattle.mesh_read.proofs.read_mesh.Statement.{statement}
@@ -22,7 +22,7 @@ returns c =
 copy-mesh-requires : tie.Need-copy-mesh-requires
 copy-mesh-requires c κs =
     let call = c.before.before.before.before in
-    (refusalIn-known call.before.before.before.before.args.bytes.now
+    (refusal_in-known call.before.before.before.before.args.bytes.now
     (sym (ap (λ (r : Refusal). r.cause) call.refusal-in.ensures) ∙ c.before.before.if1.false)).fields.whole
 
 same_length : tie.Need-same-length

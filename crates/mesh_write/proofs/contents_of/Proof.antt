@@ -1,7 +1,7 @@
 -- `contents_of`: the vertices are searched before the indices, which will lie after them.
 use mathlib.Core.Path.{◌∙◌}
 use native.Mathlib.Omega.{arith}
-use Rattle.mesh_write.proofs.Meshes.{contentsOf-coordinate, contentsOf-index, contentsOf-passed}
+use Rattle.mesh_write.proofs.Meshes.{contents_of-coordinate, contents_of-index, contents_of-passed}
 use borrow.Author.Rules.{rules}
 use Rattle.mesh_write.proofs.contents_of.Statement.{statement}
 use Rattle.mesh_write.proofs.contents_of.Tie as tie
@@ -23,7 +23,7 @@ returns c =
     let first = c.before.before in
     let start = first.before.before.before in
     c.refused.ensures
-    ∙ contentsOf-coordinate start.args.coordinates.now start.args.indices.now first.lowest-infinite.result first.lowest-infinite.ensures (omega arith)
+    ∙ contents_of-coordinate start.args.coordinates.now start.args.indices.now first.lowest-infinite.result first.lowest-infinite.ensures (omega arith)
 
 cast-lowest-beyond : tie.Need-overflow-cast-lowest-beyond
 cast-lowest-beyond c = search rules
@@ -52,7 +52,7 @@ returns-2 c =
     let first = second.before.before in
     let start = first.before.before.before in
     c.refused2.ensures
-    ∙ contentsOf-index start.args.coordinates.now start.args.indices.now first.lowest-infinite.result first.lowest-infinite.ensures
+    ∙ contents_of-index start.args.coordinates.now start.args.indices.now first.lowest-infinite.result first.lowest-infinite.ensures
     second.lowest-beyond.result (omega arith) second.lowest-beyond.ensures (omega arith)
 
 refused-requires-3 : tie.Need-refused-requires-3
@@ -64,7 +64,7 @@ returns-3 c =
     let first = second.before.before in
     let start = first.before.before.before in
     c.refused3.ensures
-    ∙ contentsOf-passed start.args.coordinates.now start.args.indices.now first.lowest-infinite.result first.lowest-infinite.ensures
+    ∙ contents_of-passed start.args.coordinates.now start.args.indices.now first.lowest-infinite.result first.lowest-infinite.ensures
     second.lowest-beyond.result (omega arith) second.lowest-beyond.ensures (omega arith)
 
 pub contents-of-spec : {M : Type 1} → statement M

@@ -6,10 +6,10 @@ use native.Mathlib.Omega.{arith}
 use lib.ListN.{length, drop}
 use lib.Ieee.{binary32, to_bits}
 use borrow.Author.Tests.{not-true, not-false}
-use Rattle.little_endian.proofs.Runs.{getD-map-at}
+use Rattle.little_endian.proofs.Runs.{get_or-map-at}
 use Rattle.mesh_record.specs.Mesh.{finite}
-use Rattle.mesh_record.specs.Refusals.{lowestBad}
-use Rattle.mesh_record.proofs.LowestBad.{lowestBad-good, lowestBad-bad, lowestBad-end}
+use Rattle.mesh_record.specs.Refusals.{lowest_bad}
+use Rattle.mesh_record.proofs.LowestBad.{lowest_bad-good, lowest_bad-bad, lowest_bad-end}
 use Rattle.mesh_write.proofs.Meshes.{bits-length}
 use borrow.Author.Rules.{rules}
 use Rattle.mesh_write.proofs.lowest_infinite.Statement.{statement}
@@ -17,7 +17,7 @@ use Rattle.mesh_write.proofs.lowest_infinite.Tie as tie
 
 abbrev invariant-loop : tie.invariant-loop
 invariant-loop coordinates i₀ i =
-    (i ≤ length coordinates) × (i + lowestBad finite (drop i (map (to_bits binary32) coordinates)) ≡ lowestBad finite (map (to_bits binary32) coordinates))
+    (i ≤ length coordinates) × (i + lowest_bad finite (drop i (map (to_bits binary32) coordinates)) ≡ lowest_bad finite (map (to_bits binary32) coordinates))
 
 abbrev decreases-loop : tie.decreases-loop
 decreases-loop coordinates i₀ i = length coordinates - i
@@ -43,8 +43,8 @@ returns c =
     let floats = turn.before.before.args.coordinates.now in
     let i = turn.loop.i in
     let here : i < length floats = search rules in
-    let test = ap finite (getD-map-at (to_bits binary32) floats i _ 0 here ∙ sym c.before.before.bits_of.ensures) ∙ sym c.before.is_finite.ensures in
-    sym (lowestBad-bad finite (map (to_bits binary32) floats) i (omega (arith, here, bits-length floats)) (test ∙ not-true _ c.if1.true)) ∙ turn.loop.invariant.1
+    let test = ap finite (get_or-map-at (to_bits binary32) floats i _ 0 here ∙ sym c.before.before.bits_of.ensures) ∙ sym c.before.is_finite.ensures in
+    sym (lowest_bad-bad finite (map (to_bits binary32) floats) i (omega (arith, here, bits-length floats)) (test ∙ not-true _ c.if1.true)) ∙ turn.loop.invariant.1
 
 add-i : tie.Need-overflow-add-i invariant-loop decreases-loop
 add-i c = search rules
@@ -58,15 +58,15 @@ loop-again c =
     let floats = turn.before.before.args.coordinates.now in
     let i = turn.loop.i in
     let here : i < length floats = search rules in
-    let test = ap finite (getD-map-at (to_bits binary32) floats i _ 0 here ∙ sym c.before.before.bits_of.ensures) ∙ sym c.before.is_finite.ensures in
-    (search rules, sym (lowestBad-good finite (map (to_bits binary32) floats) i (omega (arith, here, bits-length floats)) (test ∙ not-false _ c.if1.false)) ∙ turn.loop.invariant.1)
+    let test = ap finite (get_or-map-at (to_bits binary32) floats i _ 0 here ∙ sym c.before.before.bits_of.ensures) ∙ sym c.before.is_finite.ensures in
+    (search rules, sym (lowest_bad-good finite (map (to_bits binary32) floats) i (omega (arith, here, bits-length floats)) (test ∙ not-false _ c.if1.false)) ∙ turn.loop.invariant.1)
 
 returns-2 : tie.Need-returns-2 invariant-loop decreases-loop
 returns-2 c =
     let turn = c.before in
     let floats = turn.before.before.args.coordinates.now in
     let all : length floats ≤ turn.loop.i = search rules in
-    lowestBad-end finite (map (to_bits binary32) floats) turn.loop.i (omega (arith, all, bits-length floats)) turn.loop.invariant.1
+    lowest_bad-end finite (map (to_bits binary32) floats) turn.loop.i (omega (arith, all, bits-length floats)) turn.loop.invariant.1
 
 pub lowest-infinite-spec : {M : Type 1} → statement M
 lowest-infinite-spec =

@@ -3,8 +3,8 @@ use mathlib.Core.Path.{sym, ap, ◌∙◌}
 use native.Mathlib.Omega.{arith}
 use lib.ListN.{length}
 use Rattle.mesh_record.specs.declared.Refusal.{Refusal}
-use Rattle.mesh_write.proofs.Fields.{fieldsOf-known}
-use Rattle.mesh_write.proofs.Meshes.{refusalOf-opening, refusalOf-fields, refusalOf-contents}
+use Rattle.mesh_write.proofs.Fields.{fields_of-known}
+use Rattle.mesh_write.proofs.Meshes.{refusal_of-opening, refusal_of-fields, refusal_of-contents}
 use borrow.Author.Rules.{rules}
 use Rattle.mesh_write.proofs.refusal_of.Statement.{statement}
 use Rattle.mesh_write.proofs.refusal_of.Tie as tie
@@ -16,7 +16,7 @@ returns : tie.Need-returns
 returns c =
     let opened = c.before.before in
     let start = opened.before.before.before in
-    refusalOf-opening start.args.version start.args.size start.args.numbering start.args.coordinates.now start.args.indices.now
+    refusal_of-opening start.args.version start.args.size start.args.numbering start.args.coordinates.now start.args.indices.now
     opened.opening.result opened.opening.ensures c.if1.true
 
 fields-of-requires : tie.Need-fields-of-requires
@@ -27,14 +27,14 @@ returns-2 c =
     let fields = c.before.before in
     let opened = fields.before.before.before in
     let start = opened.before.before.before in
-    refusalOf-fields start.args.version start.args.size start.args.numbering start.args.coordinates.now start.args.indices.now
+    refusal_of-fields start.args.version start.args.size start.args.numbering start.args.coordinates.now start.args.indices.now
     opened.opening.result opened.opening.ensures fields.before.if1.false fields.fields-of.result fields.fields-of.ensures c.if2.true
 
 contents-of-requires : tie.Need-contents-of-requires
 contents-of-requires c κs =
     let fields = c.before.before in
     let start = fields.before.before.before.before.before.before in
-    let fits = fieldsOf-known (length start.args.coordinates.now) (length start.args.indices.now)
+    let fits = fields_of-known (length start.args.coordinates.now) (length start.args.indices.now)
     (sym (ap (λ (r : Refusal). r.cause) fields.fields-of.ensures) ∙ c.if2.false) in
     (omega (arith, fits.coordinates-whole, fits.offset_word), omega (arith, fits.indices-word))
 
@@ -43,7 +43,7 @@ returns-3 c =
     let fields = c.before.before.before in
     let opened = fields.before.before.before in
     let start = opened.before.before.before in
-    refusalOf-contents start.args.version start.args.size start.args.numbering start.args.coordinates.now start.args.indices.now
+    refusal_of-contents start.args.version start.args.size start.args.numbering start.args.coordinates.now start.args.indices.now
     opened.opening.result opened.opening.ensures fields.before.if1.false fields.fields-of.result fields.fields-of.ensures c.before.if2.false
     c.contents-of.result c.contents-of.ensures
 

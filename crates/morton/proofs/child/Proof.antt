@@ -5,7 +5,7 @@ use Prim.Native.Nat.{ℕ, ◌≤◌, ◌<◌}
 use lib.Dec.{T}
 use borrow.Author.Rules.{rules}
 use borrow.Author.Tests.{not-true, not-false, lt-ltb, le-ltb, le-leb, lt-leb}
-use Rattle.morton.specs.Key.{good, levelIn}
+use Rattle.morton.specs.Key.{good, level_in}
 use Rattle.morton.proofs.TopBit.{child-word}
 use Rattle.morton.proofs.child.Statement.{statement}
 use Rattle.morton.proofs.child.Tie as tie
@@ -28,7 +28,7 @@ returns-2 c =
     let last = subst (λ (x : ℕ). 21 ≤ x) c.before.level_in.ensures c.if2.true in
     rw (is-good c.before.before, le-ltb _ _ last)
 
-below_last : (c : tie.Else2) → levelIn c.before.before.before.before.args.key < 21
+below_last : (c : tie.Else2) → level_in c.before.before.before.before.args.key < 21
 below_last c = subst (λ (x : ℕ). x < 21) c.before.level_in.ensures c.if2.false
 
 -- above 7

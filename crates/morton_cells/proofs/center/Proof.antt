@@ -6,10 +6,10 @@ use native.Mathlib.Omega.{arith}
 use lib.Dec.{T}
 use borrow.Author.Rules.{rules}
 use borrow.Author.Tests.{not-true, not-false}
-use Rattle.morton.specs.Key.{good, levelIn}
+use Rattle.morton.specs.Key.{good, level_in}
 use Rattle.morton_sums.specs.Interleaved.{X, Y, Z}
-use Rattle.morton_cells.specs.Cell.{centerOn}
-use Rattle.morton.proofs.TopBit.{levelIn-le}
+use Rattle.morton_cells.specs.Cell.{center_on}
+use Rattle.morton.proofs.TopBit.{level_in-le}
 use Rattle.morton_cells.proofs.Thirds.{center-on-axis}
 use Rattle.morton_cells.proofs.center.Statement.{statement}
 use Rattle.morton_cells.proofs.center.Tie as tie
@@ -26,8 +26,8 @@ is-good c = sym c.before.is-good.ensures ∙ not-false _ c.if1.false
 level-in-requires : tie.Need-level-in-requires
 level-in-requires c κs = subst T (sym (is-good c)) tt
 
-level-le : (level key : ℕ) → level ≡ levelIn key → level ≤ 21
-level-le level key e = subst (λ (x : ℕ). x ≤ 21) (sym e) (levelIn-le key)
+level-le : (level key : ℕ) → level ≡ level_in key → level ≤ 21
+level-le level key e = subst (λ (x : ℕ). x ≤ 21) (sym e) (level_in-le key)
 
 center-on-requires : tie.Need-center-on-requires
 center-on-requires c κs = level-le _ _ c.level_in.ensures
@@ -43,9 +43,9 @@ returns-2 c =
     let told = c.before.before.before in
     let key = told.before.before.before.args.key in
     let level = told.level_in.result in
-    let x : c.before.before.center-on.result ≡ centerOn X key = c.before.before.center-on.ensures ∙ center-on-axis X key _ level (omega arith) told.level_in.ensures in
-    let y : c.before.center-on2.result ≡ centerOn Y key = c.before.center-on2.ensures ∙ center-on-axis Y key _ level refl told.level_in.ensures in
-    let z : c.center-on3.result ≡ centerOn Z key = c.center-on3.ensures ∙ center-on-axis Z key _ level refl told.level_in.ensures in
+    let x : c.before.before.center-on.result ≡ center_on X key = c.before.before.center-on.ensures ∙ center-on-axis X key _ level (omega arith) told.level_in.ensures in
+    let y : c.before.center-on2.result ≡ center_on Y key = c.before.center-on2.ensures ∙ center-on-axis Y key _ level refl told.level_in.ensures in
+    let z : c.center-on3.result ≡ center_on Z key = c.center-on3.ensures ∙ center-on-axis Z key _ level refl told.level_in.ensures in
     rw (is-good told.before, x, y, z)
 
 pub center-spec : {M : Type 1} → statement M

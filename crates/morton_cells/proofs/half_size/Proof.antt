@@ -6,7 +6,7 @@ use lib.Dec.{T}
 use borrow.Author.Rules.{rules}
 use borrow.Author.Tests.{not-true, not-false}
 use Rattle.morton.specs.Key.{good}
-use Rattle.morton.proofs.TopBit.{levelIn-le}
+use Rattle.morton.proofs.TopBit.{level_in-le}
 use Rattle.morton_cells.proofs.half_size.Statement.{statement}
 use Rattle.morton_cells.proofs.half_size.Tie as tie
 
@@ -23,7 +23,7 @@ level-in-requires : tie.Need-level-in-requires
 level-in-requires c κs = subst T (sym (is-good c)) tt
 
 half-size-at-requires : tie.Need-half-size-at-requires
-half-size-at-requires c κs = subst (λ (x : ℕ). x ≤ 21) (sym c.level_in.ensures) (levelIn-le _)
+half-size-at-requires c κs = subst (λ (x : ℕ). x ≤ 21) (sym c.level_in.ensures) (level_in-le _)
 
 returns-2 : tie.Need-returns-2
 returns-2 c = rw (is-good c.before.before, c.half-size-at.ensures, c.before.level_in.ensures)

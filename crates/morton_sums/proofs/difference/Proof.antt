@@ -1,6 +1,6 @@
 -- `difference`: each masked part is the difference on its axis, and the parts share no bit.
 use Rattle.std.proofs.Common.{◌+◌, ◌-◌, ◌%◌, ◌^◌, rules}
-use Rattle.morton_sums.specs.Interleaved.{X, Y, Z, width, onAxis}
+use Rattle.morton_sums.specs.Interleaved.{X, Y, Z, width, on_axis}
 use Rattle.morton_sums.proofs.Carry.{own}
 use Rattle.morton_sums.proofs.Axis.{difference-on, joined}
 use Rattle.morton_sums.proofs.difference.Statement.{statement}
@@ -25,7 +25,7 @@ returns c =
     let y = c.before.wrapping-sub-u642 in
     let x = c.wrapping-sub-u643 in
     joined z.result y.result x.result
-    (λ axis. (onAxis axis a + 2 ^ width axis - onAxis axis b) % 2 ^ width axis)
+    (λ axis. (on_axis axis a + 2 ^ width axis - on_axis axis b) % 2 ^ width axis)
     (difference-on Z a b z.result z.type-inv start.ranges.b.fits z.ensures)
     (difference-on Y a b y.result y.type-inv start.ranges.b.fits y.ensures)
     (difference-on X a b x.result x.type-inv start.ranges.b.fits x.ensures)

@@ -1,11 +1,11 @@
 -- `new_words`: the constant is the list of specs/.
 use mathlib.Core.Path.{refl}
-use Rattle.packed_tables.specs.Packed.{newWords, newWordsByClass}
+use Rattle.packed_tables.specs.Packed.{new_words, new_words_by_class}
 use Rattle.packed_tables.proofs.new_words.Statement.{statement}
 use Rattle.packed_tables.proofs.new_words.Tie as tie
 
 returns : tie.Need-returns
-unfolding newWords newWordsByClass
+unfolding new_words new_words_by_class
 returns c = refl
 
 pub new-words-spec : {M : Type 1} → statement M

@@ -1,12 +1,12 @@
 -- `regular_words`: the constant is the list that specs/ works out from the rows.
 use mathlib.Core.Path.{refl}
-use Rattle.marching_cubes_tables.specs.Tables.{triangleConnection}
-use Rattle.packed_tables.specs.Regular.{regularWords}
+use Rattle.marching_cubes_tables.specs.Tables.{triangle_connection}
+use Rattle.packed_tables.specs.Regular.{regular_words}
 use Rattle.packed_tables.proofs.regular_words.Statement.{statement}
 use Rattle.packed_tables.proofs.regular_words.Tie as tie
 
 returns : tie.Need-returns
-unfolding regularWords triangleConnection
+unfolding regular_words triangle_connection
 returns c = refl
 
 pub regular-words-spec : {M : Type 1} → statement M

@@ -3,7 +3,7 @@ use mathlib.Core.Path.{refl}
 use native.Mathlib.Omega.{arith}
 use lib.Dec.{le→leb}
 use lib.Ieee.{in_float}
-use Rattle.positions.specs.Position.{cornerOf}
+use Rattle.positions.specs.Position.{corner_of}
 use Rattle.positions.proofs.corner_coordinate.Statement.{statement}
 use Rattle.positions.proofs.corner_coordinate.Tie as tie
 
@@ -12,7 +12,7 @@ unfolding in_float
 int-to-float-result c = omega (arith, le→leb)
 
 returns : tie.Need-returns
-unfolding cornerOf
+unfolding corner_of
 returns c = refl
 
 pub corner-coordinate-spec : {M : Type 1} → statement M

@@ -4,7 +4,7 @@ use Prim.Native.Nat.{ℕ}
 use lib.Ieee.{Float}
 use borrow.Author.Rules.{rules}
 use Rattle.marching_cubes_impl.specs.declared.vertex.Vertex.{Vertex}
-use Rattle.positions.specs.Position.{cornerOf, point_of}
+use Rattle.positions.specs.Position.{corner_of, point_of}
 use Rattle.positions.proofs.grid_point.Statement.{statement}
 use Rattle.positions.proofs.grid_point.Tie as tie
 
@@ -17,7 +17,7 @@ corner-coordinate-requires-2 c κs = search rules
 corner-coordinate-requires-3 : tie.Need-corner-coordinate-requires-3
 corner-coordinate-requires-3 c κs = search rules
 
-joined : (x y z : ℕ) (h u v w : Float) → u ≡ cornerOf x h → v ≡ cornerOf y h → w ≡ cornerOf z h
+joined : (x y z : ℕ) (h u v w : Float) → u ≡ corner_of x h → v ≡ corner_of y h → w ≡ corner_of z h
     → ◌≡◌ {A = Vertex} (record { x = u; y = v; z = w }) (point_of (record { x = x; y = y; z = z }) h)
 joined x y z h u v w p q r = rw (p, q, r)
 

@@ -9,7 +9,7 @@ use borrow.Author.Rules.{rules}
 use Rattle.walk.proofs.OwnedCells.{fold}
 use Rattle.packed_tables.specs.Unpacked.{unpacked, Edges}
 use Rattle.packed_tables.proofs.PackedEdges.{three-edges}
-use Rattle.regular_cells.specs.RegularCell.{nameHeld}
+use Rattle.regular_cells.specs.RegularCell.{name_held}
 use Rattle.regular_cells.proofs.NamedRow.{hand, name-three, name-none}
 use Rattle.regular_cells.proofs.name_all.Statement.{statement}
 use Rattle.regular_cells.proofs.name_all.Tie as tie
@@ -18,8 +18,8 @@ abbrev invariant-loop : tie.invariant-loop
 invariant-loop current list triangles indices₀ made written₀ rest₀ left₀ indices written rest left =
     (written + 3 * left ≡ written₀ + 3 * triangles) × (left ≤ 5) × Edges (unpacked (3 * left) rest) × (length indices ≡ length indices₀)
     × ((work : List ℕ) (layer row : ℕ) (b : List Float)
-    → fold nameHeld (unpacked (3 * left) rest) (hand work layer row current b indices made written)
-    ≡ fold nameHeld (unpacked (3 * triangles) list) (hand work layer row current b indices₀ made written₀))
+    → fold name_held (unpacked (3 * left) rest) (hand work layer row current b indices made written)
+    ≡ fold name_held (unpacked (3 * triangles) list) (hand work layer row current b indices₀ made written₀))
 
 abbrev decreases-loop : tie.decreases-loop
 decreases-loop current list triangles indices₀ made written₀ rest₀ left₀ indices written rest left = left

@@ -1,6 +1,6 @@
 -- `regular_visits`: what is new by the word, then the row.
 use native.Mathlib.Omega.{arith}
-use Rattle.packed_tables.proofs.Words.{inThrees}
+use Rattle.packed_tables.proofs.Words.{in_threes}
 use Rattle.regular_cells.proofs.RegularRow.{row-known, row-most, row-regular, row-fewer, row-absent}
 use Rattle.regular_cells.proofs.RegularVisits.{regular-visited}
 use borrow.Author.Rules.{rules}
@@ -46,7 +46,7 @@ returns c =
     let word = args.word in
     let current = args.current.now in
     let counted = named.name-all.ensures.1 in (
-      regular-visited args.n args.samples.now args.x args.y args.z (omega (arith, cell.in-x)) (omega (arith, cell.in-y)) regular (inThrees word) args.layer args.row
+      regular-visited args.n args.samples.now args.x args.y args.z (omega (arith, cell.in-x)) (omega (arith, cell.in-y)) regular (in_threes word) args.layer args.row
           args.work.now current args.vertices.now args.indices.now args.counts _ _ _ _ named.name-all.result (row-regular regular word current row)
           (row-known regular word current row) (row-absent regular word current row) start.requires.1.1.1.0 row.twelve made.make-regular.ensures
           (named.name-all.ensures.0 _ args.layer args.row _),

@@ -1,8 +1,8 @@
 -- `make_named`: an edge that the word names, or nothing is done.
 use Rattle.regular_edges.proofs.NamedEdges.{named-there, named-absent}
 use borrow.Author.Rules.{rules}
-use Rattle.lent_mesh.specs.Stored.{inHand}
-use Rattle.held_visits.specs.CellMemory.{inCell}
+use Rattle.lent_mesh.specs.Stored.{in_hand}
+use Rattle.held_visits.specs.CellMemory.{in_cell}
 use Rattle.regular_edges.proofs.make_named.Statement.{statement}
 use Rattle.regular_edges.proofs.make_named.Tie as tie
 
@@ -40,13 +40,13 @@ returns c =
     let made = c.before.before.before.before in
     let chosen = made.before.before.before.before in
     let args = chosen.before.before.before.before.args in
-    λ is counts. named-there args.n args.samples.now args.x args.y args.z args.regular args.made args.edge (inHand (inCell args.work.now args.layer args.row args.current.now) args.vertices.now is counts) _
+    λ is counts. named-there args.n args.samples.now args.x args.y args.z args.regular args.made args.edge (in_hand (in_cell args.work.now args.layer args.row args.current.now) args.vertices.now is counts) _
     chosen.if1.true (made.make-edge.ensures is counts)
 
 returns-2 : tie.Need-returns-2
 returns-2 c =
     let args = c.before.before.before.before.args in
-    λ is counts. named-absent args.n args.samples.now args.x args.y args.z args.regular args.made args.edge (inHand (inCell args.work.now args.layer args.row args.current.now) args.vertices.now is counts)
+    λ is counts. named-absent args.n args.samples.now args.x args.y args.z args.regular args.made args.edge (in_hand (in_cell args.work.now args.layer args.row args.current.now) args.vertices.now is counts)
     c.if1.false
 
 pub make-named-spec : {M : Type 1} → statement M

@@ -1,9 +1,9 @@
 -- `make_regular`: the four lower edges, then the two others.
 use mathlib.Core.Path.{◌∙◌}
 use lib.Dec.{lit≤}
-use Rattle.lent_mesh.specs.Stored.{inHand}
+use Rattle.lent_mesh.specs.Stored.{in_hand}
 use Rattle.index_cache.proofs.Places.{room-kept}
-use Rattle.held_visits.specs.CellMemory.{inCell}
+use Rattle.held_visits.specs.CellMemory.{in_cell}
 use Rattle.regular_edges.proofs.NamedEdges.{six-named}
 use Rattle.regular_edges.proofs.make_regular.Statement.{statement}
 use Rattle.regular_edges.proofs.make_regular.Tie as tie
@@ -29,7 +29,7 @@ returns c =
     let second = c.before.before.before.before in
     let first = second.before.before.before.before.before.before.before.before in
     let args = first.before.before.before.before.before.before.before.args in
-    λ is counts. six-named args.n args.samples.now args.x args.y args.z args.regular args.made (inHand (inCell args.work.now args.layer args.row args.current.now) args.vertices.now is counts) _ _
+    λ is counts. six-named args.n args.samples.now args.x args.y args.z args.regular args.made (in_hand (in_cell args.work.now args.layer args.row args.current.now) args.vertices.now is counts) _ _
     (first.make-lower.ensures is counts) (second.make-two.ensures is counts)
 
 pub make-regular-spec : {M : Type 1} → statement M

@@ -1,8 +1,8 @@
 -- `make_two`: two edges, one after the other.
 use mathlib.Core.Path.{◌∙◌}
-use Rattle.lent_mesh.specs.Stored.{inHand}
+use Rattle.lent_mesh.specs.Stored.{in_hand}
 use Rattle.index_cache.proofs.Places.{room-kept}
-use Rattle.held_visits.specs.CellMemory.{inCell}
+use Rattle.held_visits.specs.CellMemory.{in_cell}
 use Rattle.regular_edges.proofs.NamedEdges.{two-named}
 use Rattle.regular_edges.proofs.make_two.Statement.{statement}
 use Rattle.regular_edges.proofs.make_two.Tie as tie
@@ -28,7 +28,7 @@ returns c =
     let second = c.before.before.before.before in
     let first = second.before.before.before.before.before.before.before.before in
     let args = first.before.before.before.before.before.before.before.args in
-    λ is counts. two-named args.n args.samples.now args.x args.y args.z args.regular args.made args.first args.second (inHand (inCell args.work.now args.layer args.row args.current.now) args.vertices.now is counts) _ _
+    λ is counts. two-named args.n args.samples.now args.x args.y args.z args.regular args.made args.first args.second (in_hand (in_cell args.work.now args.layer args.row args.current.now) args.vertices.now is counts) _ _
     (first.make-named.ensures is counts) (second.make-named2.ensures is counts)
 
 pub make-two-spec : {M : Type 1} → statement M

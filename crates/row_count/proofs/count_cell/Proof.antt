@@ -1,4 +1,4 @@
--- `count_cell`: either numbering by its own function; `countStep` goes by the same test.
+-- `count_cell`: either numbering by its own function; `count_step` goes by the same test.
 use mathlib.Core.Path.{subst, sym}
 use Prim.Native.Nat.{ℕ, ◌≤◌}
 use native.Mathlib.Omega.{arith}

@@ -4,18 +4,18 @@ use Prim.Native.Nat.{◌-◌, ◌*◌, ◌≤◌, ◌<◌, min}
 use native.Mathlib.Omega.{arith}
 use lib.ListN.{length}
 use borrow.Author.Rules.{rules}
-use Rattle.walk_models.specs.Owned.{cellsOfRow}
-use Rattle.lent_mesh.specs.Grid.{insideOf}
+use Rattle.walk_models.specs.Owned.{cells_of_row}
+use Rattle.lent_mesh.specs.Grid.{inside_of}
 use Rattle.sign_cells.proofs.Turns.{Reached, reached-no-word, reached-word, reached-row}
 use Rattle.held_bits.specs.HeldCell.{held}
-use Rattle.row_count.specs.Steps.{countIn, countStep}
+use Rattle.row_count.specs.Steps.{count_in, count_step}
 use Rattle.row_count.proofs.CountWord.{row-idle}
 use Rattle.row_count.proofs.count_row.Statement.{statement}
 use Rattle.row_count.proofs.count_row.Tie as tie
 
 abbrev invariant-loop : tie.invariant-loop
 invariant-loop numbering news names low high samples n y z row work₀ class reached₀ k₀ work reached k =
-    Reached countIn (λ x t. countStep numbering n (insideOf n samples) z y x t) (held work₀ reached₀) (held work reached) (min (32 * k) (n - 1)) (480 * k)
+    Reached count_in (λ x t. count_step numbering n (inside_of n samples) z y x t) (held work₀ reached₀) (held work reached) (min (32 * k) (n - 1)) (480 * k)
     × (k ≤ 4) × (length work ≡ length work₀)
 
 abbrev decreases-loop : tie.decreases-loop
@@ -107,7 +107,7 @@ same_length : tie.Need-same-length invariant-loop decreases-loop
 same_length c = search rules
 
 returns-2 : tie.Need-returns-2 invariant-loop decreases-loop
-unfolding cellsOfRow
+unfolding cells_of_row
 returns-2 c =
     let start = c.before.before.before.before.before.before.before in
     let most = start.requires.1.0.0.most in

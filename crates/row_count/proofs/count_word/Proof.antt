@@ -5,7 +5,7 @@ use native.Mathlib.Omega.{arith}
 use lib.Count.{count_trailing_zeros}
 use lib.ListN.{length}
 use borrow.Author.Rules.{rules}
-use Rattle.lent_mesh.specs.Grid.{insideOf}
+use Rattle.lent_mesh.specs.Grid.{inside_of}
 use Rattle.sign_cells.specs.Cells.{cells_in}
 use Rattle.sign_cells.proofs.LowestBits.{gone-less, onward-first}
 use Rattle.row_count.proofs.CountWord.{Counted, counted-found, counted_next, counted-last}
@@ -84,7 +84,7 @@ loop-again c =
     let args = start.args in
     let some : 0 < turn.before.loop.rest = omega arith in
     let case = called.before.before.case-of.ensures.0 _ args.samples.now args.y args.z _ start.requires.1.0.1 (found turn).0 in
-    let added = called.count-cell.ensures.0 (insideOf args.n args.samples.now) case in
+    let added = called.count-cell.ensures.0 (inside_of args.n args.samples.now) case in
     (counted_next args.numbering args.n args.samples.now args.z args.y args.k _ _ _ _ turn.before.loop.invariant.0 start.requires.1.0.2 _ some added called.count-cell.ensures.1.0 called.count-cell.ensures.1.1, search rules)
 
 same_length : tie.Need-same-length invariant-loop decreases-loop

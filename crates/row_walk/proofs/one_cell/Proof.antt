@@ -1,4 +1,4 @@
--- `one_cell`: either numbering by its own function; `cellStep` goes by the same test.
+-- `one_cell`: either numbering by its own function; `cell_step` goes by the same test.
 use mathlib.Core.Path.{subst, sym}
 use Prim.Native.Nat.{ℕ, ◌≤◌}
 use native.Mathlib.Omega.{arith}

@@ -4,17 +4,17 @@ use Prim.Native.Nat.{ℕ, ◌+◌, ◌-◌, ◌*◌, ◌≤◌, ◌<◌, min}
 use native.Mathlib.Omega.{arith}
 use lib.ListN.{length}
 use borrow.Author.Rules.{rules}
-use Rattle.walk_models.specs.Owned.{cellsOfRow}
-use Rattle.lent_mesh.specs.Stored.{inHand}
+use Rattle.walk_models.specs.Owned.{cells_of_row}
+use Rattle.lent_mesh.specs.Stored.{in_hand}
 use Rattle.sign_cells.proofs.Turns.{Reached, reached-no-word, reached-word, reached-row}
-use Rattle.row_walk.specs.Steps.{cellStep}
-use Rattle.row_walk.proofs.WordLoop.{handCount, row-idle}
+use Rattle.row_walk.specs.Steps.{cell_step}
+use Rattle.row_walk.proofs.WordLoop.{hand_count, row-idle}
 use Rattle.row_walk.proofs.row_cells.Statement.{statement}
 use Rattle.row_walk.proofs.row_cells.Tie as tie
 
 abbrev invariant-loop : tie.invariant-loop
 invariant-loop numbering rows regulars news coordinates slots low high samples n y z row work₀ vertices₀ indices₀ class reached₀ k₀ work vertices indices reached k =
-    Reached handCount (λ x t. cellStep numbering n samples z y x t) (inHand work₀ vertices₀ indices₀ reached₀) (inHand work vertices indices reached) (min (32 * k) (n - 1)) (480 * k)
+    Reached hand_count (λ x t. cell_step numbering n samples z y x t) (in_hand work₀ vertices₀ indices₀ reached₀) (in_hand work vertices indices reached) (min (32 * k) (n - 1)) (480 * k)
     × (k ≤ 4) × (length work ≡ length work₀) × (length vertices ≡ length vertices₀) × (length indices ≡ length indices₀)
 
 abbrev decreases-loop : tie.decreases-loop
@@ -114,7 +114,7 @@ same-length-3 : tie.Need-same-length-3 invariant-loop decreases-loop
 same-length-3 c = search rules
 
 returns-2 : tie.Need-returns-2 invariant-loop decreases-loop
-unfolding cellsOfRow
+unfolding cells_of_row
 returns-2 c =
     let start = c.before.before.before.before.before.before.before.before.before in
     let most = start.requires.1.0.0.layer.most in

@@ -5,7 +5,7 @@ use native.Mathlib.Omega.{arith}
 use lib.Count.{count_trailing_zeros}
 use lib.ListN.{length}
 use borrow.Author.Rules.{rules}
-use Rattle.lent_mesh.specs.Stored.{inHand}
+use Rattle.lent_mesh.specs.Stored.{in_hand}
 use Rattle.sign_cells.specs.Cells.{cells_in}
 use Rattle.sign_cells.proofs.LowestBits.{gone-less, onward-first}
 use Rattle.row_walk.proofs.OneCell.{cell-of-row}
@@ -15,7 +15,7 @@ use Rattle.row_walk.proofs.word_cells.Tie as tie
 
 abbrev invariant-loop : tie.invariant-loop
 invariant-loop numbering rows regulars news coordinates slots samples n y z k quad mask class row work₀ vertices₀ indices₀ dense reached₀ rest₀ work vertices indices reached rest =
-    Walked numbering n samples z y k (inHand work₀ vertices₀ indices₀ reached₀) (inHand work vertices indices reached) mask rest × (length work ≡ length work₀) × (length vertices ≡ length vertices₀) × (length indices ≡ length indices₀)
+    Walked numbering n samples z y k (in_hand work₀ vertices₀ indices₀ reached₀) (in_hand work vertices indices reached) mask rest × (length work ≡ length work₀) × (length vertices ≡ length vertices₀) × (length indices ≡ length indices₀)
 
 abbrev decreases-loop : tie.decreases-loop
 decreases-loop numbering rows regulars news coordinates slots samples n y z k quad mask class row work₀ vertices₀ indices₀ dense reached₀ rest₀ work vertices indices reached rest =

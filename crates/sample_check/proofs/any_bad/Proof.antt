@@ -3,19 +3,19 @@ use mathlib.Core.Path.{◌≡◌}
 use Prim.Native.Nat.{ℕ, ◌-◌, ◌≤◌}
 use lib.ListN.{length, take}
 use borrow.Author.Rules.{rules}
-use Rattle.sample_check.specs.Samples.{anyBad}
+use Rattle.sample_check.specs.Samples.{any_bad}
 use Rattle.sample_check.proofs.Samples.{flag-suc, flag-end}
 use Rattle.sample_check.proofs.any_bad.Statement.{statement}
 use Rattle.sample_check.proofs.any_bad.Tie as tie
 
 abbrev invariant-loop : tie.invariant-loop
-invariant-loop samples bad₀ i₀ bad i = (i ≤ length samples) × (bad ≡ anyBad (take i samples))
+invariant-loop samples bad₀ i₀ bad i = (i ≤ length samples) × (bad ≡ any_bad (take i samples))
 
 abbrev decreases-loop : tie.decreases-loop
 decreases-loop samples bad₀ i₀ bad i = length samples - i
 
 loop-holds : tie.Need-loop-init invariant-loop decreases-loop
-unfolding anyBad
+unfolding any_bad
 loop-holds c = search rules
 
 mul-v : tie.Need-overflow-mul-v invariant-loop decreases-loop

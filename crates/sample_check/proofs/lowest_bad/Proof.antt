@@ -4,13 +4,13 @@ use Prim.Native.Nat.{ℕ, ◌+◌, ◌-◌, ◌≤◌}
 use lib.ListN.{length, drop}
 use borrow.Author.Rules.{rules}
 use borrow.Author.Tests.{not-true, not-false}
-use Rattle.sample_check.specs.Samples.{lowestBad}
-use Rattle.sample_check.proofs.Samples.{lowestBad-good, lowestBad-bad, lowestBad-end}
+use Rattle.sample_check.specs.Samples.{lowest_bad}
+use Rattle.sample_check.proofs.Samples.{lowest_bad-good, lowest_bad-bad, lowest_bad-end}
 use Rattle.sample_check.proofs.lowest_bad.Statement.{statement}
 use Rattle.sample_check.proofs.lowest_bad.Tie as tie
 
 abbrev invariant-loop : tie.invariant-loop
-invariant-loop samples i₀ i = (i ≤ length samples) × (i + lowestBad (drop i samples) ≡ lowestBad samples)
+invariant-loop samples i₀ i = (i ≤ length samples) × (i + lowest_bad (drop i samples) ≡ lowest_bad samples)
 
 abbrev decreases-loop : tie.decreases-loop
 decreases-loop samples i₀ i = length samples - i
@@ -32,7 +32,7 @@ returns c =
     let turn = c.before.before.before.before in
     let samples = turn.before.before.args.samples.now in
     let i = turn.loop.i in
-    let bad = lowestBad-bad samples i (search rules) (sym c.before.is-good.ensures ∙ not-true _ c.if1.true) in
+    let bad = lowest_bad-bad samples i (search rules) (sym c.before.is-good.ensures ∙ not-true _ c.if1.true) in
     sym bad ∙ turn.loop.invariant.1
 
 add-i : tie.Need-overflow-add-i invariant-loop decreases-loop
@@ -46,13 +46,13 @@ loop-again c =
     let turn = c.before.before.before.before in
     let samples = turn.before.before.args.samples.now in
     let i = turn.loop.i in
-    let good = lowestBad-good samples i (search rules) (sym c.before.is-good.ensures ∙ not-false _ c.if1.false) in
+    let good = lowest_bad-good samples i (search rules) (sym c.before.is-good.ensures ∙ not-false _ c.if1.false) in
     (search rules, sym good ∙ turn.loop.invariant.1)
 
 returns-2 : tie.Need-returns-2 invariant-loop decreases-loop
 returns-2 c =
     let samples = c.before.before.before.args.samples.now in
-    lowestBad-end samples c.before.loop.i (search rules) c.before.loop.invariant.1
+    lowest_bad-end samples c.before.loop.i (search rules) c.before.loop.invariant.1
 
 pub lowest-bad-spec : {M : Type 1} → statement M
 lowest-bad-spec =

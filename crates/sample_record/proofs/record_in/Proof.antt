@@ -6,8 +6,8 @@ use native.Mathlib.Omega.{arith}
 use lib.ListN.{length}
 use borrow.Author.Rules.{rules}
 use Rattle.little_endian.specs.Words.{word_at}
-use Rattle.sample_record.specs.Record.{sampleCount}
-use Rattle.sample_record.proofs.Checks.{recordOf-short, recordOf-version, recordOf-small, recordOf-large, recordOf-numbering, recordOf-count, recordOf-offset, recordOf-length, recordOf-whole}
+use Rattle.sample_record.specs.Record.{sample_count}
+use Rattle.sample_record.proofs.Checks.{record_of-short, record_of-version, record_of-small, record_of-large, record_of-numbering, record_of-count, record_of-offset, record_of-length, record_of-whole}
 use Rattle.sample_record.proofs.record_in.Statement.{statement}
 use Rattle.sample_record.proofs.record_in.Tie as tie
 
@@ -32,12 +32,12 @@ numbering c = omega arith
 
 -- the product that the count is compared with, from the size that was read
 counted : (c : tie.After-sample-count) →
-    c.sample-count.result ≡ sampleCount (word_at c.before.before.before.before.before.before.before.before.before.before.before.args.bytes.now 4)
-counted c = c.sample-count.ensures ∙ ap sampleCount c.before.before.before.before.before.before.word-at2.ensures
+    c.sample-count.result ≡ sample_count (word_at c.before.before.before.before.before.before.before.before.before.before.before.args.bytes.now 4)
+counted c = c.sample-count.ensures ∙ ap sample_count c.before.before.before.before.before.before.word-at2.ensures
 
 count : (c : tie.Else6) →
     let start = c.before.before.before.before.before.before.before.before.before.before.before.before in
-    word_at start.args.bytes.now 12 ≡ sampleCount (word_at start.args.bytes.now 4)
+    word_at start.args.bytes.now 12 ≡ sample_count (word_at start.args.bytes.now 4)
 count c = sym c.before.before.word-at4.ensures ∙ c.if6.false ∙ counted c.before
 
 offset : (c : tie.Else7) →
@@ -46,7 +46,7 @@ offset : (c : tie.Else7) →
 offset c = omega arith
 
 returns : tie.Need-returns
-returns c = let start = c.before.before in recordOf-short start.args.limit start.args.bytes.now (omega arith)
+returns c = let start = c.before.before in record_of-short start.args.limit start.args.bytes.now (omega arith)
 
 word-at-requires : tie.Need-word-at-requires
 word-at-requires c κs = search rules
@@ -55,7 +55,7 @@ returns-2 : tie.Need-returns-2
 returns-2 c =
     let first = c.before.before in
     let start = first.before.before in
-    recordOf-version start.args.limit start.args.bytes.now (long first) (λ e. omega arith)
+    record_of-version start.args.limit start.args.bytes.now (long first) (λ e. omega arith)
 
 word-at-requires-2 : tie.Need-word-at-requires-2
 word-at-requires-2 c κs = search rules
@@ -65,7 +65,7 @@ returns-3 c =
     let second = c.before.before in
     let first = second.before.before in
     let start = first.before.before in
-    recordOf-small start.args.limit start.args.bytes.now (long first) (version second) (omega arith)
+    record_of-small start.args.limit start.args.bytes.now (long first) (version second) (omega arith)
 
 returns-4 : tie.Need-returns-4
 returns-4 c =
@@ -73,7 +73,7 @@ returns-4 c =
     let second = third.before.before in
     let first = second.before.before in
     let start = first.before.before in
-    recordOf-large start.args.limit start.args.bytes.now (long first) (version second) (least third) (omega arith)
+    record_of-large start.args.limit start.args.bytes.now (long first) (version second) (least third) (omega arith)
 
 word-at-requires-3 : tie.Need-word-at-requires-3
 word-at-requires-3 c κs = search rules
@@ -85,7 +85,7 @@ returns-5 c =
     let second = third.before.before in
     let first = second.before.before in
     let start = first.before.before in
-    recordOf-numbering start.args.limit start.args.bytes.now
+    record_of-numbering start.args.limit start.args.bytes.now
     (long first) (version second) (least third) (most fourth) (omega arith)
 
 word-at-requires-4 : tie.Need-word-at-requires-4
@@ -105,7 +105,7 @@ returns-6 c =
     let second = third.before.before in
     let first = second.before.before in
     let start = first.before.before in
-    recordOf-count start.args.limit start.args.bytes.now
+    record_of-count start.args.limit start.args.bytes.now
     (long first) (version second) (least third) (most fourth) (numbering fifth) (λ e. c.if6.true (c.before.before.word-at4.ensures ∙ e ∙ sym (counted c.before)))
 
 word-at-requires-5 : tie.Need-word-at-requires-5
@@ -120,7 +120,7 @@ returns-7 c =
     let second = third.before.before in
     let first = second.before.before in
     let start = first.before.before in
-    recordOf-offset start.args.limit start.args.bytes.now
+    record_of-offset start.args.limit start.args.bytes.now
     (long first) (version second) (least third) (most fourth) (numbering fifth) (count sixth) (λ e. omega arith)
 
 mul-if8 : tie.Need-overflow-mul-if8
@@ -139,7 +139,7 @@ returns-8 c =
     let second = third.before.before in
     let first = second.before.before in
     let start = first.before.before in
-    recordOf-length start.args.limit start.args.bytes.now
+    record_of-length start.args.limit start.args.bytes.now
     (long first) (version second) (least third) (most fourth) (numbering fifth) (count sixth) (offset seventh) (λ e. omega arith)
 
 returns-9 : tie.Need-returns-9
@@ -153,7 +153,7 @@ returns-9 c =
     let first = second.before.before in
     let start = first.before.before in
     rw (third.before.word-at2.ensures, fifth.before.word-at3.ensures)
-    (recordOf-whole start.args.limit start.args.bytes.now
+    (record_of-whole start.args.limit start.args.bytes.now
     (long first) (version second) (least third) (most fourth) (numbering fifth) (count sixth) (offset seventh) (omega arith))
 
 pub record-in-spec : {M : Type 1} → statement M

@@ -1,7 +1,7 @@
--- `active`: the word of the mixed cells, by `mixedWord-active`.
+-- `active`: the word of the mixed cells, by `mixed_word-active`.
 use mathlib.Core.Path.{◌∙◌}
 use borrow.Author.Rules.{rules}
-use Rattle.sign_cells.proofs.QuadBits.{someWord, everyWord, mixedWord, mixedWord-active}
+use Rattle.sign_cells.proofs.QuadBits.{some_word, every_word, mixed_word, mixed_word-active}
 use Rattle.sign_cells.proofs.active.Statement.{statement}
 use Rattle.sign_cells.proofs.active.Tie as tie
 
@@ -12,10 +12,10 @@ cut-requires : tie.Need-cut-requires
 cut-requires c κs = search rules
 
 returns : tie.Need-returns
-unfolding mixedWord someWord everyWord
+unfolding mixed_word some_word every_word
 returns c samples y z known =
     let args = c.before.before.before.before.before.before.before.args in
-    c.cut.ensures ∙ mixedWord-active args.n samples y z args.k args.q known
+    c.cut.ensures ∙ mixed_word-active args.n samples y z args.k args.q known
 
 pub active-spec : {M : Type 1} → statement M
 active-spec = tie.close (tie.spec cast-cut cut-requires returns)

@@ -1,6 +1,6 @@
 -- `case_of`: two bits of each word, put together in the order of the corners.
 use borrow.Author.Rules.{rules}
-use Rattle.sign_cells.proofs.QuadBits.{caseNumber, caseNumber-lt, caseNumber-signs}
+use Rattle.sign_cells.proofs.QuadBits.{case_number, case_number-lt, case_number-signs}
 use Rattle.sign_cells.proofs.case_of.Statement.{statement}
 use Rattle.sign_cells.proofs.case_of.Tie as tie
 
@@ -47,12 +47,12 @@ add-result-5 : tie.Need-overflow-add-result-5
 add-result-5 c = search rules
 
 returns : tie.Need-returns
-unfolding caseNumber
+unfolding case_number
 returns c =
     let args = c.before.before.before.before.args in
     let q = args.q in (
-      λ n samples y z k known cell. caseNumber-signs n samples k args.i cell y z q known,
-      caseNumber-lt q.a q.b q.c q.d args.i,
+      λ n samples y z k known cell. case_number-signs n samples k args.i cell y z q known,
+      case_number-lt q.a q.b q.c q.d args.i,
     )
 
 pub case-of-spec : {M : Type 1} → statement M

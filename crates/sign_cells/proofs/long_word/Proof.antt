@@ -1,7 +1,7 @@
 -- `long_word`: two words of 32 bits, one above the other.
 use native.Mathlib.Omega.{arith}
 use borrow.Author.Rules.{rules}
-use Rattle.sign_cells.proofs.LongWords.{longWord-signs}
+use Rattle.sign_cells.proofs.LongWords.{long_word-signs}
 use Rattle.sign_cells.proofs.long_word.Statement.{statement}
 use Rattle.sign_cells.proofs.long_word.Tie as tie
 
@@ -29,7 +29,7 @@ cast-result c = search rules
 returns : tie.Need-returns
 returns c =
     let args = c.before.before.args in
-    longWord-signs args.words.now args.y args.k _ _ (omega arith) (omega arith) (omega arith) c.before.word_at.ensures c.word-at2.ensures
+    long_word-signs args.words.now args.y args.k _ _ (omega arith) (omega arith) (omega arith) c.before.word_at.ensures c.word-at2.ensures
 
 pub long-word-spec : {M : Type 1} → statement M
 long-word-spec =

@@ -5,7 +5,7 @@ use native.Mathlib.Omega.{arith}
 use lib.Dec.{eqb}
 use borrow.Author.Rules.{rules}
 use borrow.Author.Tests.{eqb-true}
-use Rattle.sign_cells.proofs.OutsideRows.{ZeroWords, zeroWords-none, zeroWords-suc, row-outside}
+use Rattle.sign_cells.proofs.OutsideRows.{ZeroWords, zero_words-none, zero_words-suc, row-outside}
 use Rattle.sign_cells.proofs.outside.Statement.{statement}
 use Rattle.sign_cells.proofs.outside.Tie as tie
 
@@ -16,7 +16,7 @@ abbrev decreases-loop : tie.decreases-loop
 decreases-loop low high y some₀ i₀ some i = 8 - i
 
 loop-holds : tie.Need-loop-init invariant-loop decreases-loop
-loop-holds c = (λ e. zeroWords-none c.args.low.now c.args.high.now c.args.y, omega arith)
+loop-holds c = (λ e. zero_words-none c.args.low.now c.args.high.now c.args.y, omega arith)
 
 mul_at : tie.Need-overflow-mul-at invariant-loop decreases-loop
 mul_at c = search rules
@@ -46,7 +46,7 @@ loop-again : tie.Need-loop-preserved invariant-loop decreases-loop
 loop-again c =
     let turn = c.before.before.before in
     let args = turn.before.args in
-    (zeroWords-suc args.low.now args.high.now args.y turn.loop.i turn.loop.some turn.loop.invariant.0, omega arith)
+    (zero_words-suc args.low.now args.high.now args.y turn.loop.i turn.loop.some turn.loop.invariant.0, omega arith)
 
 returns : tie.Need-returns invariant-loop decreases-loop
 returns c e =

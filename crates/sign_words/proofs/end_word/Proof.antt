@@ -2,7 +2,7 @@
 use mathlib.Core.Path.{◌∙◌}
 use native.Mathlib.Omega.{arith}
 use borrow.Author.Rules.{rules}
-use Rattle.sign_words.proofs.RowWords.{wordFrom-part, wordFrom-past}
+use Rattle.sign_words.proofs.RowWords.{word_from-part, word_from-past}
 use Rattle.sign_words.proofs.end_word.Statement.{statement}
 use Rattle.sign_words.proofs.end_word.Tie as tie
 
@@ -21,12 +21,12 @@ part-word-requires c κs = search rules
 returns : tie.Need-returns
 returns c =
     let args = c.before.before.before.args in
-    c.part-word.ensures ∙ wordFrom-part args.samples.now args.start args.n args.k (omega arith) (omega arith)
+    c.part-word.ensures ∙ word_from-part args.samples.now args.start args.n args.k (omega arith) (omega arith)
 
 returns-2 : tie.Need-returns-2
 returns-2 c =
     let args = c.before.before.args in
-    wordFrom-past args.samples.now args.start args.n args.k (omega arith)
+    word_from-past args.samples.now args.start args.n args.k (omega arith)
 
 pub end-word-spec : {M : Type 1} → statement M
 end-word-spec = tie.close (tie.spec mul-first add-part-word sub-part-word part-word-requires returns returns-2)

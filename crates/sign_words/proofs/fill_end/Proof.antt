@@ -4,7 +4,7 @@ use Prim.Native.Nat.{ℕ, ◌+◌, ◌*◌, ◌/◌, ◌-◌, ◌≤◌}
 use native.Mathlib.Omega.{arith}
 use lib.ListN.{length, length-set}
 use borrow.Author.Rules.{rules}
-use Rattle.sign_words.specs.Words.{wordFrom, WordsFilled}
+use Rattle.sign_words.specs.Words.{word_from, WordsFilled}
 use Rattle.sign_words.proofs.RowWords.{row-none, row-suc}
 use Rattle.sign_words.proofs.fill_end.Statement.{statement}
 use Rattle.sign_words.proofs.fill_end.Tie as tie
@@ -55,7 +55,7 @@ loop-again c =
       length-set loop.words _ _ ∙ loop.invariant.2,
       λ z e.
           row-suc args.n args.samples.now z args.y (args.n / 32) loop.k _ _ _ (omega arith) past (omega arith) loop.invariant.2 (loop.invariant.3 z e)
-          (c.end-word.ensures ∙ ap (λ (s : ℕ). wordFrom args.samples.now s args.n loop.k) e),
+          (c.end-word.ensures ∙ ap (λ (s : ℕ). word_from args.samples.now s args.n loop.k) e),
     )
 
 same_length : tie.Need-same-length invariant-loop decreases-loop

@@ -4,8 +4,8 @@ use Prim.Native.Nat.{ℕ, ◌+◌, ◌*◌, ◌/◌, ◌-◌, ◌≤◌}
 use native.Mathlib.Omega.{arith}
 use lib.ListN.{length, length-set}
 use borrow.Author.Rules.{rules}
-use Rattle.sign_words.specs.Words.{wordFrom, WordsFilled}
-use Rattle.sign_words.proofs.RowWords.{row-none, row-suc, wordFrom-whole}
+use Rattle.sign_words.specs.Words.{word_from, WordsFilled}
+use Rattle.sign_words.proofs.RowWords.{row-none, row-suc, word_from-whole}
 use Rattle.sign_words.proofs.fill_whole.Statement.{statement}
 use Rattle.sign_words.proofs.fill_whole.Tie as tie
 
@@ -55,13 +55,13 @@ loop-again c =
     let args = at-loop.before.before.before.args in
     let loop = at-loop.loop in
     let is = loop.invariant.0 in
-    let word = c.whole_word.ensures ∙ wordFrom-whole args.samples.now args.start args.n loop.k (omega arith) in (
+    let word = c.whole_word.ensures ∙ word_from-whole args.samples.now args.start args.n loop.k (omega arith) in (
       is,
       omega arith,
       length-set loop.words _ _ ∙ loop.invariant.2,
       λ z e.
           row-suc args.n args.samples.now z args.y 0 loop.k _ _ _ (omega arith) (omega arith) (omega arith) loop.invariant.2 (loop.invariant.3 z e)
-          (word ∙ ap (λ (s : ℕ). wordFrom args.samples.now s args.n loop.k) e),
+          (word ∙ ap (λ (s : ℕ). word_from args.samples.now s args.n loop.k) e),
     )
 
 same_length : tie.Need-same-length invariant-loop decreases-loop

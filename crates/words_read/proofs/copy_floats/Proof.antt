@@ -5,16 +5,16 @@ use Prim.Native.Nat.{◌-◌, ◌≤◌, ◌<◌}
 use native.Mathlib.Omega.{arith}
 use lib.ListN.{length, length-map}
 use lib.Ieee.{nan, binary32, of_bits}
-use Rattle.little_endian.specs.Words.{wordsFrom}
-use Rattle.little_endian.proofs.Runs.{wordsFrom-length, wordsFrom-at, getD-map-at}
-use Rattle.words_read.proofs.Turns.{copiedTo, copiedTo-end, copied_next}
+use Rattle.little_endian.specs.Words.{words_from}
+use Rattle.little_endian.proofs.Runs.{words_from-length, words_from-at, get_or-map-at}
+use Rattle.words_read.proofs.Turns.{copied_to, copied_to-end, copied_next}
 use borrow.Author.Rules.{rules}
 use Rattle.words_read.proofs.copy_floats.Statement.{statement}
 use Rattle.words_read.proofs.copy_floats.Tie as tie
 
 abbrev invariant-loop : tie.invariant-loop
 invariant-loop bytes at count buffer₀ i₀ buffer i =
-    (i ≤ count) × (buffer ≡ copiedTo (map (of_bits binary32) (wordsFrom bytes at count)) buffer₀ i) × (length buffer ≡ length buffer₀)
+    (i ≤ count) × (buffer ≡ copied_to (map (of_bits binary32) (words_from bytes at count)) buffer₀ i) × (length buffer ≡ length buffer₀)
 
 abbrev decreases-loop : tie.decreases-loop
 decreases-loop bytes at count buffer₀ i₀ buffer i = count - i
@@ -53,15 +53,15 @@ loop-again c =
     let bytes = start.args.bytes.now in
     let at = start.args.at in
     let count = start.args.count in
-    let l = wordsFrom bytes at count in
+    let l = words_from bytes at count in
     let i = turn.loop.i in
     let here : i < count = search rules in
-    let within : i < length l = omega (arith, here, wordsFrom-length bytes at count start.requires.0) in
-    let float = c.float_of.ensures ∙ ap (of_bits binary32) (c.before.word_at.ensures ∙ sym (wordsFrom-at bytes at count start.requires.0 i here)) in (
+    let within : i < length l = omega (arith, here, words_from-length bytes at count start.requires.0) in
+    let float = c.float_of.ensures ∙ ap (of_bits binary32) (c.before.word_at.ensures ∙ sym (words_from-at bytes at count start.requires.0 i here)) in (
       search rules,
       copied_next (map (of_bits binary32) l) start.args.buffer.now turn.loop.buffer i nan c.float_of.result
           (omega (arith, within, length-map l (of_bits binary32))) (search rules) turn.loop.invariant.1
-          (float ∙ sym (getD-map-at (of_bits binary32) l i 0 nan within)),
+          (float ∙ sym (get_or-map-at (of_bits binary32) l i 0 nan within)),
       search rules,
     )
 
@@ -72,10 +72,10 @@ returns : tie.Need-returns invariant-loop decreases-loop
 returns c =
     let turn = c.before in
     let start = turn.before.before.before in
-    let l = wordsFrom start.args.bytes.now start.args.at start.args.count in
+    let l = words_from start.args.bytes.now start.args.at start.args.count in
     let all : turn.loop.i ≡ start.args.count = search rules in
-    turn.loop.invariant.1 ∙ copiedTo-end (map (of_bits binary32) l) start.args.buffer.now turn.loop.i
-    (all ∙ sym (length-map l (of_bits binary32) ∙ wordsFrom-length start.args.bytes.now start.args.at start.args.count start.requires.0))
+    turn.loop.invariant.1 ∙ copied_to-end (map (of_bits binary32) l) start.args.buffer.now turn.loop.i
+    (all ∙ sym (length-map l (of_bits binary32) ∙ words_from-length start.args.bytes.now start.args.at start.args.count start.requires.0))
 
 pub copy-floats-spec : {M : Type 1} → statement M
 copy-floats-spec =

@@ -3,15 +3,15 @@ use mathlib.Core.Path.{◌≡◌, refl, sym, ◌∙◌}
 use Prim.Native.Nat.{◌-◌, ◌≤◌, ◌<◌}
 use native.Mathlib.Omega.{arith}
 use lib.ListN.{length}
-use Rattle.little_endian.specs.Words.{wordsFrom}
-use Rattle.little_endian.proofs.Runs.{wordsFrom-length, wordsFrom-at}
-use Rattle.words_read.proofs.Turns.{copiedTo, copiedTo-end, copied_next}
+use Rattle.little_endian.specs.Words.{words_from}
+use Rattle.little_endian.proofs.Runs.{words_from-length, words_from-at}
+use Rattle.words_read.proofs.Turns.{copied_to, copied_to-end, copied_next}
 use borrow.Author.Rules.{rules}
 use Rattle.words_read.proofs.copy_words.Statement.{statement}
 use Rattle.words_read.proofs.copy_words.Tie as tie
 
 abbrev invariant-loop : tie.invariant-loop
-invariant-loop bytes at count buffer₀ i₀ buffer i = (i ≤ count) × (buffer ≡ copiedTo (wordsFrom bytes at count) buffer₀ i) × (length buffer ≡ length buffer₀)
+invariant-loop bytes at count buffer₀ i₀ buffer i = (i ≤ count) × (buffer ≡ copied_to (words_from bytes at count) buffer₀ i) × (length buffer ≡ length buffer₀)
 
 abbrev decreases-loop : tie.decreases-loop
 decreases-loop bytes at count buffer₀ i₀ buffer i = count - i
@@ -49,10 +49,10 @@ loop-again c =
     let count = start.args.count in
     let i = turn.loop.i in
     let here : i < count = search rules in
-    let within : i < length (wordsFrom bytes at count) = omega (arith, here, wordsFrom-length bytes at count start.requires.0) in (
+    let within : i < length (words_from bytes at count) = omega (arith, here, words_from-length bytes at count start.requires.0) in (
       search rules,
-      copied_next (wordsFrom bytes at count) start.args.buffer.now turn.loop.buffer i 0 c.word_at.result within (search rules) turn.loop.invariant.1
-          (c.word_at.ensures ∙ sym (wordsFrom-at bytes at count start.requires.0 i here)),
+      copied_next (words_from bytes at count) start.args.buffer.now turn.loop.buffer i 0 c.word_at.result within (search rules) turn.loop.invariant.1
+          (c.word_at.ensures ∙ sym (words_from-at bytes at count start.requires.0 i here)),
       search rules,
     )
 
@@ -64,8 +64,8 @@ returns c =
     let turn = c.before in
     let start = turn.before.before.before in
     let all : turn.loop.i ≡ start.args.count = search rules in
-    turn.loop.invariant.1 ∙ copiedTo-end (wordsFrom start.args.bytes.now start.args.at start.args.count) start.args.buffer.now turn.loop.i
-    (all ∙ sym (wordsFrom-length start.args.bytes.now start.args.at start.args.count start.requires.0))
+    turn.loop.invariant.1 ∙ copied_to-end (words_from start.args.bytes.now start.args.at start.args.count) start.args.buffer.now turn.loop.i
+    (all ∙ sym (words_from-length start.args.bytes.now start.args.at start.args.count start.requires.0))
 
 pub copy-words-spec : {M : Type 1} → statement M
 copy-words-spec =

@@ -5,14 +5,14 @@ use Prim.Native.Nat.{◌-◌, ◌≤◌, ◌<◌}
 use native.Mathlib.Omega.{arith}
 use lib.ListN.{length, length-map}
 use lib.Ieee.{binary32, to_bits}
-use Rattle.little_endian.proofs.Runs.{getD-map-at}
-use Rattle.words_write.proofs.Turns.{putTo, putTo-end, put_next}
+use Rattle.little_endian.proofs.Runs.{get_or-map-at}
+use Rattle.words_write.proofs.Turns.{put_to, put_to-end, put_next}
 use borrow.Author.Rules.{rules}
 use Rattle.words_write.proofs.put_floats.Statement.{statement}
 use Rattle.words_write.proofs.put_floats.Tie as tie
 
 abbrev invariant-loop : tie.invariant-loop
-invariant-loop bytes₀ at list i₀ bytes i = (i ≤ length list) × (length bytes ≡ length bytes₀) × (bytes ≡ putTo bytes₀ at (map (to_bits binary32) list) i)
+invariant-loop bytes₀ at list i₀ bytes i = (i ≤ length list) × (length bytes ≡ length bytes₀) × (bytes ≡ put_to bytes₀ at (map (to_bits binary32) list) i)
 
 abbrev decreases-loop : tie.decreases-loop
 decreases-loop bytes₀ at list i₀ bytes i = length list - i
@@ -55,7 +55,7 @@ loop-again c =
       search rules,
       search rules,
       put_next start.args.bytes.now start.args.at (map (to_bits binary32) floats) turn.loop.bytes i put.before.bits_of.result _ (omega (arith, here, length-map floats (to_bits binary32))) turn.loop.invariant.2
-          (put.before.bits_of.ensures ∙ sym (getD-map-at (to_bits binary32) floats i _ 0 here)) put.put_word.ensures,
+          (put.before.bits_of.ensures ∙ sym (get_or-map-at (to_bits binary32) floats i _ 0 here)) put.put_word.ensures,
     )
 
 same_length : tie.Need-same-length invariant-loop decreases-loop
@@ -67,7 +67,7 @@ returns c =
     let start = turn.before.before.before in
     let floats = start.args.list.now in
     let all : turn.loop.i ≡ length floats = search rules in
-    turn.loop.invariant.2 ∙ putTo-end start.args.bytes.now start.args.at (map (to_bits binary32) floats) turn.loop.i (all ∙ sym (length-map floats (to_bits binary32)))
+    turn.loop.invariant.2 ∙ put_to-end start.args.bytes.now start.args.at (map (to_bits binary32) floats) turn.loop.i (all ∙ sym (length-map floats (to_bits binary32)))
 
 pub put-floats-spec : {M : Type 1} → statement M
 put-floats-spec =

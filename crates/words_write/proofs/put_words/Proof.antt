@@ -2,13 +2,13 @@
 use mathlib.Core.Path.{◌≡◌, refl, ◌∙◌}
 use Prim.Native.Nat.{◌-◌, ◌≤◌}
 use lib.ListN.{length}
-use Rattle.words_write.proofs.Turns.{putTo, putTo-end, put_next}
+use Rattle.words_write.proofs.Turns.{put_to, put_to-end, put_next}
 use borrow.Author.Rules.{rules}
 use Rattle.words_write.proofs.put_words.Statement.{statement}
 use Rattle.words_write.proofs.put_words.Tie as tie
 
 abbrev invariant-loop : tie.invariant-loop
-invariant-loop bytes₀ at list i₀ bytes i = (i ≤ length list) × (length bytes ≡ length bytes₀) × (bytes ≡ putTo bytes₀ at list i)
+invariant-loop bytes₀ at list i₀ bytes i = (i ≤ length list) × (length bytes ≡ length bytes₀) × (bytes ≡ put_to bytes₀ at list i)
 
 abbrev decreases-loop : tie.decreases-loop
 decreases-loop bytes₀ at list i₀ bytes i = length list - i
@@ -51,7 +51,7 @@ returns : tie.Need-returns invariant-loop decreases-loop
 returns c =
     let turn = c.before in
     let start = turn.before.before.before in
-    turn.loop.invariant.2 ∙ putTo-end start.args.bytes.now start.args.at start.args.list.now turn.loop.i (search rules)
+    turn.loop.invariant.2 ∙ put_to-end start.args.bytes.now start.args.at start.args.list.now turn.loop.i (search rules)
 
 pub put-words-spec : {M : Type 1} → statement M
 put-words-spec =

@@ -3,7 +3,7 @@ use mathlib.Core.Path.{◌≡◌}
 use lib.Ieee.{Float}
 use borrow.Author.Rules.{rules}
 use Rattle.marching_cubes_impl.specs.declared.vertex.Vertex.{Vertex}
-use Rattle.marching_cubes_impl.specs.Vertex.{between, pointBetween}
+use Rattle.marching_cubes_impl.specs.Vertex.{between, point_between}
 use Rattle.marching_cubes_impl.proofs.vertex.interpolate.Statement.{statement}
 use Rattle.marching_cubes_impl.proofs.vertex.interpolate.Tie as tie
 
@@ -18,7 +18,7 @@ interpolate-axis-requires-3 c κs = search rules
 
 -- over plain variables: among the records of the walk the three equations are dear to join
 three-axes : (u v : Vertex) (t x y z : Float) → x ≡ between u.x v.x t → y ≡ between u.y v.y t → z ≡ between u.z v.z t
-    → record { x = x; y = y; z = z } ≡ pointBetween u v t
+    → record { x = x; y = y; z = z } ≡ point_between u v t
 three-axes u v t x y z on-x on-y on-z = cc
 
 returns : tie.Need-returns
