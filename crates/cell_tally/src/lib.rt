@@ -6,7 +6,7 @@ ghost use Rattle.corner_signs.specs.Signs.{inside_at, faces_at, whole_at, opposi
 ghost use Rattle.cell_tally.specs.Tally.{in_mask, is_set, of_signs, triangles_in, new_in, set_in};
 
 // A word of signs for each corner of a cell, in the order of CORNERS: bit i is that of cell i.
-#[derive(Drop)]
+#[derive(Clone, Copy)]
 pub struct Corners {
     pub c0: u32,
     pub c1: u32,

@@ -7,7 +7,7 @@ use marching_cubes_impl::edge::Crossing;
 
 // kind: 0 no crossing, 1 a crossing, 2 refused. A field that the kind does not use is 0.
 #[repr(C)]
-#[derive(Drop)]
+#[derive(Clone, Copy)]
 pub struct EdgeAnswer {
     pub kind: u32,
     pub cause: u32,

@@ -16,7 +16,7 @@ use grid_walk::Span;
 use lent_mesh::Counts;
 
 // What is counted, and the layers in which it is.
-#[derive(Drop)]
+#[derive(Clone, Copy)]
 pub struct Reach {
     pub counts: Counts,
     pub span: Span,

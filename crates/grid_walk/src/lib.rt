@@ -18,7 +18,7 @@ ghost use Rattle.grid_walk.specs.Growth.{GrowsWithin};
 use lent_mesh::Counts;
 
 // The layers of cells from the first that the surface crosses up to the last: numbers `first` to `last - 1`.
-#[derive(Drop)]
+#[derive(Clone, Copy)]
 pub struct Span {
     pub first: usize,
     pub last: usize,

@@ -10,7 +10,7 @@ use morton_cells::{Length, Point};
 
 // A level or a key; 0 where refused.
 #[repr(C)]
-#[derive(Drop)]
+#[derive(Clone, Copy)]
 pub struct KeyAnswer {
     pub cause: u32,
     pub value: u64,
@@ -18,7 +18,7 @@ pub struct KeyAnswer {
 
 // A half-size; 0.0 where refused.
 #[repr(C)]
-#[derive(Drop)]
+#[derive(Clone, Copy)]
 pub struct HalfSizeAnswer {
     pub cause: u32,
     pub value: f32,

@@ -9,7 +9,7 @@ ghost use Rattle.lent_mesh.specs.Stored.{put_point, CellOf, Coordinates};
 use marching_cubes_impl::vertex::Vertex;
 
 // How many vertices and indices a run has come to.
-#[derive(Drop)]
+#[derive(Clone, Copy)]
 pub struct Counts {
     pub made: u32,
     pub written: u32,

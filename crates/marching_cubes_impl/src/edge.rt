@@ -7,7 +7,7 @@ ghost use Rattle.marching_cubes_impl.specs.Edge.{offset_of, crosses, crossing_of
 
 // No crossing; a crossing with its offset from the first end; or refusal 5, with the place of the
 // first bad end, 0 or 1.
-#[derive(Drop)]
+#[derive(Clone, Copy)]
 pub enum Crossing {
     Absent,
     At(f32),

@@ -11,7 +11,7 @@ ghost use Rattle.marching_cubes_impl.specs.Cell.{padded, cell_of};
 
 // The sign byte of a cell and its edges: those that the row names, in order, then -1.
 #[repr(C)]
-#[derive(Drop)]
+#[derive(Clone, Copy)]
 pub struct Cell {
     pub signs: u8,
     pub edges: [i8; 16],

@@ -3,7 +3,7 @@ ghost use Rattle.std.specs.Prelude.{◌≡◌};
 ghost use Rattle.marching_cubes_impl.specs.Vertex.{between, point_between};
 
 // x, y and z together.
-#[derive(Drop)]
+#[derive(Clone, Copy)]
 pub struct Vertex {
     pub x: f32,
     pub y: f32,

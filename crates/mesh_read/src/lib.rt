@@ -11,7 +11,7 @@ use words_read::{copy_floats, copy_words};
 
 // What the reader answers. A field that the cause does not use is 0.
 #[repr(C)]
-#[derive(Drop)]
+#[derive(Clone, Copy)]
 pub struct ReadAnswer {
     pub cause: u32,
     pub size: u32,

@@ -4,7 +4,7 @@ ghost use Rattle.mesh_record.specs.Refusals.{opening};
 ghost use Rattle.mesh_record.specs.Mesh.{finite};
 
 // A cause and its place; cause 0 refuses nothing. A field that the cause does not use is 0.
-#[derive(Drop)]
+#[derive(Clone, Copy)]
 pub struct Refusal {
     pub cause: u32,
     pub place: u64,

@@ -13,7 +13,7 @@ use words_write::{put_floats, put_words};
 
 // What the writer answers. A field that the cause does not use is 0.
 #[repr(C)]
-#[derive(Drop)]
+#[derive(Clone, Copy)]
 pub struct WriteAnswer {
     pub cause: u32,
     pub place: u64,

@@ -7,7 +7,7 @@ ghost use Rattle.morton.specs.Answer.{level_of, parent_of, child_of};
 const MAX_LEVEL: u32 = 21;
 
 // A level or a key, or refusal 9.
-#[derive(Drop)]
+#[derive(Clone, Copy)]
 pub enum Number {
     Is(u64),
     Refused,

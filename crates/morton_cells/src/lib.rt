@@ -25,13 +25,13 @@ const DILATE_MASK_1: u64 = 0x01C0_E070_381C_0E07; // 3 bits at 0, 9, .., 54
 const DILATE_MASK_0: u64 = 0x9249_2492_4924_9249; // bits 0, 3, .., 63
 
 // A half-size, or refusal 9.
-#[derive(Drop)]
+#[derive(Clone, Copy)]
 pub enum Length {
     Is(f32),
     Refused,
 }
 
-#[derive(Drop)]
+#[derive(Clone, Copy)]
 pub struct Vec3 {
     pub x: f32,
     pub y: f32,
@@ -39,7 +39,7 @@ pub struct Vec3 {
 }
 
 // A center, or refusal 9.
-#[derive(Drop)]
+#[derive(Clone, Copy)]
 pub enum Point {
     At(Vec3),
     Refused,

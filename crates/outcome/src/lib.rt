@@ -3,7 +3,7 @@
 
 // The common answer. A field that the cause does not use is 0.
 #[repr(C)]
-#[derive(Drop)]
+#[derive(Clone, Copy)]
 pub struct Answer {
     pub cause: u32,
     pub place: u64,

@@ -8,7 +8,7 @@ use sample_record::Record;
 
 // A field that the cause does not use is 0.
 #[repr(C)]
-#[derive(Drop)]
+#[derive(Clone, Copy)]
 pub struct RecordAnswer {
     pub cause: u32,
     pub place: u64,

@@ -8,7 +8,7 @@ use little_endian::word_at;
 
 // What a record answers: what it holds, or the first of the refusals in document 01's order. A
 // malformed one says at which byte.
-#[derive(Drop)]
+#[derive(Clone, Copy)]
 pub enum Record {
     Holds { size: u32, numbering: u32 },
     Malformed(usize),

@@ -4,7 +4,7 @@ ghost use Rattle.std.specs.Prelude.{◌≡◌, ◌+◌, ◌^◌, ◌%◌, ◌≤
 ghost use Rattle.sign_cells.specs.Cells.{LongWordFrom, QuadFrom, cells_in, ActiveFrom, CaseFrom, OutsideFrom};
 
 // The signs of four rows from sample 32 * k on: rows y and y + 1 of the lower layer, then of the upper.
-#[derive(Drop)]
+#[derive(Clone, Copy)]
 pub struct Quad {
     pub a: u64,
     pub b: u64,
