@@ -16,6 +16,8 @@ level-self s k = both s (eqb k k) (eqb_refl k) where
   both : (s : Bool) (b : Bool) → T b → T (b && (beq s s || eqb k 0))
   both true true h = tt
   both false true h = tt
+  both false false h = elim h [ ]
+  both true false h = elim h [ ]
 
 pub nan-bits : (x : Float) → eq x x ≡ false → 2143289344 ≡ to_bits binary32 x
 unfolding eq to_bits

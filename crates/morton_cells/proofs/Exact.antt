@@ -7,7 +7,7 @@ use native.Mathlib.Omega.{arith}
 use lib.Dec.{T, eqb, ltb, leb, eqb→eq, lt→ltb, lit≤}
 use lib.IntN.{ℤ, pos, negsuc}
 use lib.Pow.{pow-add, pow_pos, pow_mono, pow-lt, shl_lt}
-use lib.Ieee.{Float, fin, binary32, low, up, down, round, sum, add, mul, div, of_int, of_bits, fits}
+use lib.Ieee.{Float, fin, binary32, low, up, down, round, sum, add, mul, div, of_int, of_bits, fits, nan, inf}
 use lib.Ieee.Fits.{and_l, down_pos, add-fits, div-fits, of_int-fits}
 use lib.Ieee.Exact.{HasValue, round_exact}
 use lib.Ieee.Scale.{round_same}
@@ -50,6 +50,8 @@ value-unique : (x : Float) (b l : ℕ) → T (fits binary32 x) → HasValue x fa
 value-unique (fin s zero e) b l t v = absurd (none_above ((2 * b + 1) * down e) (mul-pos (omega arith) (down_pos e)) (omega (arith, v.1)))
 value-unique (fin s (suc m) (pos a)) b l t v =
     absurd (even_odd (2 * b + 1) (suc m * 2 ^ a * 2 ^ l) (twice-odd b) (sym (mul-one (2 * b + 1)) ∙ sym v.1 ∙ doubled (suc m * 2 ^ a) l))
+value-unique nan b l t v = elim v [ ]
+value-unique (inf _) b l t v = elim v [ ]
 value-unique (fin s (suc m) (negsuc a)) b l t v =
     let r = odd-parts (suc m) (2 * b + 1) (suc l) (suc a) (fits-odd s m (negsuc a) t) (twice-odd b) (ap (λ (x : ℕ). x * 2 ^ suc l) (sym (mul-one (suc m))) ∙ v.1) in
     λ i. fin (v.0 i) (r.0 i) (negsuc (down-one r.1 i))
@@ -95,6 +97,10 @@ module _ (r l : ℕ) (r-lt : r < 2 ^ 24) (l_le : l ≤ 149) where
       let same = round_same binary32 false (m * up e * (n * up g)) (down e * down g) (a * b) (c * d)
       (mul-pos (down_pos e) (down_pos g)) (mul-pos hc hd) (mul-cross (m * up e) (n * up g) c d a b (down e) (down g) v.1 w.1) in
       subst (λ (x : Float). HasValue x false r (2 ^ l)) (sym (signs ∙ same)) (rounded (a * b) (c * d) (mul-pos hc hd) h)
+  mul-exact nan y a c b d hc hd v w h = elim v [ ]
+  mul-exact (inf _) y a c b d hc hd v w h = elim v [ ]
+  mul-exact (fin s m e) nan a c b d hc hd v w h = elim w [ ]
+  mul-exact (fin s m e) (inf _) a c b d hc hd v w h = elim w [ ]
 
   add-exact : (x y : Float) (a c b d : ℕ) → 0 < c → 0 < d → HasValue x false a c → HasValue y false b d → (a * d + b * c) * 2 ^ l ≡ r * (c * d)
       → HasValue (add binary32 x y) false r (2 ^ l)
@@ -105,6 +111,10 @@ module _ (r l : ℕ) (r-lt : r < 2 ^ 24) (l_le : l ≤ 149) where
       let same = round_same binary32 false (m * up e * down g + n * up g * down e) (down e * down g) (a * d + b * c) (c * d)
       (mul-pos (down_pos e) (down_pos g)) (mul-pos hc hd) (add-cross (m * up e) (n * up g) c d a b (down e) (down g) v.1 w.1) in
       subst (λ (x : Float). HasValue x false r (2 ^ l)) (sym (signs ∙ same)) (rounded (a * d + b * c) (c * d) (mul-pos hc hd) h)
+  add-exact nan y a c b d hc hd v w h = elim v [ ]
+  add-exact (inf _) y a c b d hc hd v w h = elim v [ ]
+  add-exact (fin s m e) nan a c b d hc hd v w h = elim w [ ]
+  add-exact (fin s m e) (inf _) a c b d hc hd v w h = elim w [ ]
 
 -- ---- the two answers
 

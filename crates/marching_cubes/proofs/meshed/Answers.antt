@@ -1,0 +1,96 @@
+-- `meshed`: the causes of an accepted grid, from what `count` and `fill` promise.
+use mathlib.Core.Path.{◌≡◌, ◌∙◌}
+use native.Mathlib.Omega.{arith}
+use lib.ListN.{length}
+use Rattle.outcome.specs.Outcome.{work_room, surface_of}
+use Rattle.marching_cubes.proofs.ByCause.{vertices-left, indices-left, done-left}
+use Rattle.marching_cubes.proofs.AfterCount.{cleared-again, cleared-zeros, over_none, over-no-floats}
+use Rattle.marching_cubes.proofs.meshed.Goals as goal
+
+pub count-reach-requires : goal.count-reach-requires
+count-reach-requires c = c.requires
+
+pub overflow_cast-floats : goal.overflow_cast-floats
+overflow_cast-floats c = let most = c.count-reach.ensures.written_bound in omega (arith, most.0, most.1)
+
+pub overflow_mul-floats : goal.overflow_mul-floats
+overflow_mul-floats c = let most = c.count-reach.ensures.written_bound in omega (arith, most.0, most.1)
+
+pub shape_of-work-then-vertices-floats : goal.shape_of-work-then-vertices-floats
+shape_of-work-then-vertices-floats c = c.work-1.given
+
+pub returns-then-vertices-floats : goal.returns-then-vertices-floats
+returns-then-vertices-floats c = 
+    let args = c.args in
+    let s = surface_of args.n args.numbering args.samples.now in
+    vertices-left args.n args.numbering args.samples.now args.work.now args.vertices.now args.indices.now s _ _ c.counted.result _
+    c.count-reach.ensures.made_value.0 c.count-reach.ensures.made_value.1 c.counted.ensures c.count-reach.ensures.work_after c.if-vertices-floats.true
+
+pub overflow_cast-counts : goal.overflow_cast-counts
+overflow_cast-counts c = let most = c.count-reach.ensures.written_bound in omega (arith, most.0)
+
+pub shape_of-work-then-indices-counts : goal.shape_of-work-then-indices-counts
+shape_of-work-then-indices-counts c = c.work-1.given
+
+pub returns-then-indices-counts : goal.returns-then-indices-counts
+returns-then-indices-counts c = 
+    let args = c.args in
+    let s = surface_of args.n args.numbering args.samples.now in
+    indices-left args.n args.numbering args.samples.now args.work.now args.vertices.now args.indices.now s _ _ c.counted-then-indices-counts.result _
+    c.count-reach.ensures.made_value.0 c.count-reach.ensures.made_value.1 c.counted-then-indices-counts.ensures c.count-reach.ensures.work_after c.if-vertices-floats.false c.if-indices-counts.true
+
+pub shape_of-work-then-counts-eq0 : goal.shape_of-work-then-counts-eq0
+shape_of-work-then-counts-eq0 c = c.work-1.given
+
+-- a grid without a surface
+pub returns-then-counts-eq0 : goal.returns-then-counts-eq0
+returns-then-counts-eq0 c = 
+    let args = c.args in
+    let s = surface_of args.n args.numbering args.samples.now in
+    let none = c.if-counts-eq0.true in
+    let fewer = c.count-reach.ensures.written_bound.1 in
+    let made = c.count-reach.ensures.made_value.0 in
+    let written = c.count-reach.ensures.made_value.1 in
+    let no-vertices : length s.made ≡ 0 = omega (arith, none, fewer, made) in
+    let no-indices : length s.indices ≡ 0 = omega (arith, none, written) in
+    done-left args.n args.numbering args.samples.now args.work.now args.vertices.now args.indices.now s _ _ c.counted-then-counts-eq0.result _ args.vertices.now args.indices.now
+    made written c.counted-then-counts-eq0.ensures c.count-reach.ensures.work_after (over-no-floats args.n args.samples.now s args.vertices.now no-vertices) (over_none s.indices args.indices.now no-indices)
+    (omega (arith, no-vertices)) (omega (arith, no-indices))
+
+pub fill-requires : goal.fill-requires
+fill-requires c = 
+    let made = c.count-reach.ensures.made_value.0 in
+    let written = c.count-reach.ensures.made_value.1 in
+    let floats = c.if-vertices-floats.false in
+    let words = c.if-indices-counts.false in
+    let pre = c.requires in
+    let same = c.work-1.given in
+    record {
+      accepted = (
+        record { least = pre.least; most = pre.most; samples-whole = pre.samples-whole; work-room = omega (arith, pre.work-room, same) },
+        cleared-zeros (work_room c.args.n) c.args.work.now _ c.count-reach.ensures.work_after,
+      );
+      grows_within = c.count-reach.ensures.grows_within;
+      samples_in_bounds = (omega (arith, made, floats), omega (arith, written, words));
+    }
+
+pub shape_of-work : goal.shape_of-work
+shape_of-work c = c.work-2-1.given ∙ c.work-1.given
+
+pub shape_of-vertices : goal.shape_of-vertices
+shape_of-vertices c = c.vertices-1.given
+
+pub shape_of-indices : goal.shape_of-indices
+shape_of-indices c = c.indices-1.given
+
+pub returns : goal.returns
+returns c = 
+    let args = c.args in
+    let s = surface_of args.n args.numbering args.samples.now in
+    let made = c.count-reach.ensures.made_value.0 in
+    let written = c.count-reach.ensures.made_value.1 in
+    let floats = c.if-vertices-floats.false in
+    let words = c.if-indices-counts.false in
+    done-left args.n args.numbering args.samples.now args.work.now args.vertices.now args.indices.now s _ _ c.counted-2.result _ _ _
+    made written c.counted-2.ensures (cleared-again (work_room args.n) args.work.now _ _ c.count-reach.ensures.work_after c.fill.ensures.work_after) c.fill.ensures.vertices_after c.fill.ensures.indices_after
+    (omega (arith, made, floats)) (omega (arith, written, words))

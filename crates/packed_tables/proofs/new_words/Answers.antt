@@ -1,0 +1,8 @@
+-- `new_words`: the constant is the list of specs/.
+use mathlib.Core.Path.{refl}
+use Rattle.packed_tables.specs.Packed.{new_words, new_words_by_class}
+use Rattle.packed_tables.proofs.new_words.Goals as goal
+
+pub returns : goal.returns
+unfolding new_words new_words_by_class
+returns c = refl
