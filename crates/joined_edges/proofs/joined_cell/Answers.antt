@@ -20,48 +20,48 @@ cell-slots c at e = slots-from at c.args.n c.args.x c.args.y c.args.z c.args.slo
 pub offset_bounds-rows-case : goal.offset_bounds-rows-case
 offset_bounds-rows-case c =
     let case-small : c.args.case < 256 =
-        case-lt _ _ _ _ _ c.requires.case_value.0 in
+    case-lt _ _ _ _ _ c.requires.case_value.0 in
     let case-lt = case-small in search rules
 
 pub bounds-rows-case : goal.bounds-rows-case
 bounds-rows-case c =
     let case-small : c.args.case < 256 =
-        case-lt _ _ _ _ _ c.requires.case_value.0 in
+    case-lt _ _ _ _ _ c.requires.case_value.0 in
     case-small
 
 pub overflow_mul-at : goal.overflow_mul-at
 overflow_mul-at c =
     let at_small : c.args.y * c.args.n + c.args.x < 16640 =
-        let cell = c.requires.cell_of in
-        let in-x = cell.in-x in
-        let in-y = cell.in-y in
-        row_small c.args.n c.args.x c.args.y cell.most (omega (arith, in-x)) (omega (arith, in-y)) in
+    let cell = c.requires.cell_of in
+    let in-x = cell.in-x in
+    let in-y = cell.in-y in
+    row_small c.args.n c.args.x c.args.y cell.most (omega (arith, in-x)) (omega (arith, in-y)) in
     let at_lt = at_small in search rules
 
 pub overflow_add-at : goal.overflow_add-at
 overflow_add-at c =
     let at_small : c.args.y * c.args.n + c.args.x < 16640 =
-        let cell = c.requires.cell_of in
-        let in-x = cell.in-x in
-        let in-y = cell.in-y in
-        row_small c.args.n c.args.x c.args.y cell.most (omega (arith, in-x)) (omega (arith, in-y)) in
+    let cell = c.requires.cell_of in
+    let in-x = cell.in-x in
+    let in-y = cell.in-y in
+    row_small c.args.n c.args.x c.args.y cell.most (omega (arith, in-x)) (omega (arith, in-y)) in
     let at_lt = at_small in search rules
 
 pub overflow_mul-at-2 : goal.overflow_mul-at-2
 overflow_mul-at-2 c =
     let at_small : c.args.y * c.args.n + c.args.x < 16640 =
-        let cell = c.requires.cell_of in
-        let in-x = cell.in-x in
-        let in-y = cell.in-y in
-        row_small c.args.n c.args.x c.args.y cell.most (omega (arith, in-x)) (omega (arith, in-y)) in
+    let cell = c.requires.cell_of in
+    let in-x = cell.in-x in
+    let in-y = cell.in-y in
+    row_small c.args.n c.args.x c.args.y cell.most (omega (arith, in-x)) (omega (arith, in-y)) in
     let at_lt = at_small in search rules
 
 pub make_new-made-requires : goal.make_new-made-requires
 make_new-made-requires c =
     let case-small : c.args.case < 256 =
-        case-lt _ _ _ _ _ c.requires.case_value.0 in
+    case-lt _ _ _ _ _ c.requires.case_value.0 in
     let class-small : c.args.class < 8 =
-        class-lt c.args.x c.args.y c.args.z _ c.requires.case_value.1 in
+    class-lt c.args.x c.args.y c.args.z _ c.requires.case_value.1 in
     let counts = c.requires.n_in_bounds in
     record {
       cell_of = c.requires.cell_of;
@@ -73,11 +73,11 @@ make_new-made-requires c =
 pub name_all-requires : goal.name_all-requires
 name_all-requires c =
     let case-small : c.args.case < 256 =
-        case-lt _ _ _ _ _ c.requires.case_value.0 in
+    case-lt _ _ _ _ _ c.requires.case_value.0 in
     let class-small : c.args.class < 8 =
-        class-lt c.args.x c.args.y c.args.z _ c.requires.case_value.1 in
+    class-lt c.args.x c.args.y c.args.z _ c.requires.case_value.1 in
     let held : (let args = c.args in Words args.class args.case (get_or args.rows.now args.case 0) (get_or args.news.now (256 * args.class + args.case) 0)) =
-        words c.args.class c.args.case (get_or c.args.news.now (256 * c.args.class + c.args.case) 0) c.args.rows.now c.args.news.now class-small case-small c.requires.rows_value.0 c.requires.rows_value.1 refl in
+    words c.args.class c.args.case (get_or c.args.news.now (256 * c.args.class + c.args.case) 0) c.args.rows.now c.args.news.now class-small case-small c.requires.rows_value.0 c.requires.rows_value.1 refl in
     let args = c.args in
     let cell = c.requires.cell_of in
     let w = held in
@@ -103,11 +103,11 @@ shape_of-indices c = c.indices-1.given
 pub returns : goal.returns
 returns c =
     let case-small : c.args.case < 256 =
-        case-lt _ _ _ _ _ c.requires.case_value.0 in
+    case-lt _ _ _ _ _ c.requires.case_value.0 in
     let class-small : c.args.class < 8 =
-        class-lt c.args.x c.args.y c.args.z _ c.requires.case_value.1 in
+    class-lt c.args.x c.args.y c.args.z _ c.requires.case_value.1 in
     let held : (let args = c.args in Words args.class args.case (get_or args.rows.now args.case 0) (get_or args.news.now (256 * args.class + args.case) 0)) =
-        words c.args.class c.args.case (get_or c.args.news.now (256 * c.args.class + c.args.case) 0) c.args.rows.now c.args.news.now class-small case-small c.requires.rows_value.0 c.requires.rows_value.1 refl in
+    words c.args.class c.args.case (get_or c.args.news.now (256 * c.args.class + c.args.case) 0) c.args.rows.now c.args.news.now class-small case-small c.requires.rows_value.0 c.requires.rows_value.1 refl in
     let args = c.args in
     let w = held in
     let row = get_or args.rows.now args.case 0 in

@@ -19,19 +19,19 @@ loop-left-init c = (refl, omega (arith, c.requires.edges.1), c.requires.edges.0,
 pub first_number-a-requires : goal.first_number-a-requires
 first_number-a-requires c =
     let edges : let rest = c.loop-left.rest in (rest % 16 < 12) × (rest / 16 % 16 < 12) × (rest / 16 / 16 % 16 < 12) × Edges (unpacked (3 * (c.loop-left.left - 1)) (rest / 16 / 16 / 16)) =
-        three-edges c.loop-left.left c.loop-left.rest c.loop-left-test.true c.loop-left.invariant.2 in
+    three-edges c.loop-left.left c.loop-left.rest c.loop-left-test.true c.loop-left.invariant.2 in
     let h = edges.0 in (h, place-lt c _ h)
 
 pub first_number-b-requires : goal.first_number-b-requires
 first_number-b-requires c =
     let edges : let rest = c.loop-left.rest in (rest % 16 < 12) × (rest / 16 % 16 < 12) × (rest / 16 / 16 % 16 < 12) × Edges (unpacked (3 * (c.loop-left.left - 1)) (rest / 16 / 16 / 16)) =
-        three-edges c.loop-left.left c.loop-left.rest c.loop-left-test.true c.loop-left.invariant.2 in
+    three-edges c.loop-left.left c.loop-left.rest c.loop-left-test.true c.loop-left.invariant.2 in
     let h = edges.1 in (h, place-lt c _ h)
 
 pub first_number-c-requires : goal.first_number-c-requires
 first_number-c-requires c =
     let edges : let rest = c.loop-left.rest in (rest % 16 < 12) × (rest / 16 % 16 < 12) × (rest / 16 / 16 % 16 < 12) × Edges (unpacked (3 * (c.loop-left.left - 1)) (rest / 16 / 16 / 16)) =
-        three-edges c.loop-left.left c.loop-left.rest c.loop-left-test.true c.loop-left.invariant.2 in
+    three-edges c.loop-left.left c.loop-left.rest c.loop-left-test.true c.loop-left.invariant.2 in
     let h = edges.2 in (h, place-lt c _ h)
 
 pub put_three-requires : goal.put_three-requires
@@ -49,7 +49,7 @@ loop-left-smaller c = omega (arith, c.loop-left-test.true)
 pub loop-left-preserved : goal.loop-left-preserved
 loop-left-preserved c =
     let edges : let rest = c.loop-left.rest in (rest % 16 < 12) × (rest / 16 % 16 < 12) × (rest / 16 / 16 % 16 < 12) × Edges (unpacked (3 * (c.loop-left.left - 1)) (rest / 16 / 16 / 16)) =
-        three-edges c.loop-left.left c.loop-left.rest c.loop-left-test.true c.loop-left.invariant.2 in
+    three-edges c.loop-left.left c.loop-left.rest c.loop-left-test.true c.loop-left.invariant.2 in
     let args = c.args in
     let put = c.put_three.ensures in (
       omega (arith, c.loop-left-test.true, c.loop-left.invariant.0),
@@ -67,7 +67,7 @@ pub shape_of-indices : goal.shape_of-indices
 shape_of-indices c = c.loop-left.invariant.3
 
 pub returns : goal.returns
-returns c = 
+returns c =
     record {
       result_after = λ n x y z store b places. sym (each_none (name_edge store n z y x) (3 * c.loop-left.left) c.loop-left.rest _ (omega (arith, c.loop-left-test.false))) ∙ c.loop-left.invariant.4 n x y z store b places;
       made_value = (refl, omega (arith, c.loop-left-test.false, c.loop-left.invariant.0));
