@@ -1,6 +1,9 @@
 // The listing program of document 01: one sample record from standard input, sizes 2 to 7, and its
 // mesh or its refusal as text on standard output. What the text is stands in the contract of `list`;
 // `main` reads and writes.
+
+#![tactic(auto)]
+
 ghost use Rattle.std.specs.Prelude.{◌≡◌, ◌++◌, ◌+◌, ◌*◌, ◌/◌, ◌≤◌, length, take};
 ghost use Rattle.listing_words.specs.Put.{Put};
 ghost use Rattle.listing_runs.specs.Runs.{lines_of, vertex_line_at, face_line_at};
