@@ -15,7 +15,7 @@ returns-then-found-ne0 c =
     let owed = listing-refused c.args.bytes.now c.record_answer-found.result c.record_answer-found.ensures c.if-found-ne0.true in
     let short : c.put_refused.result ≤ 191622 = omega (arith, c.put_refused.ensures.upper_bound) in
     record {
-      text_after = front_of c.args.text.now c.put_refused.new.0 _ c.put_refused.result c.put_refused.ensures.put short c.requires ∙ sym owed;
+      text_after = front_of c.args.text.now c.put_refused.new.text _ c.put_refused.result c.put_refused.ensures.put short c.requires ∙ sym owed;
       upper_bound = short;
     }
 
@@ -36,13 +36,13 @@ slice_bounds-samples-end c =
     let accepted : Accepted 7 c.args.bytes.now c.record_answer-found.result.size c.record_answer-found.result.numbering =
         accepted-of c.args.bytes.now c.record_answer-found.result c.record_answer-found.ensures c.if-found-ne0.false in
     let room = sample_count-le _ accepted.most in
-    omega (arith, room, c.copy_samples.auto.1.0)
+    omega (arith, room, c.copy_samples.auto.buffer)
 
 pub slice_bounds-list_grid-end : goal.slice_bounds-list_grid-end
 slice_bounds-list_grid-end c =
     let accepted : Accepted 7 c.args.bytes.now c.record_answer-found.result.size c.record_answer-found.result.numbering =
         accepted-of c.args.bytes.now c.record_answer-found.result c.record_answer-found.ensures c.if-found-ne0.false in
-    let lent : let size = c.record_answer-found.result.size in take (size * size * (size + 1)) c.copy_samples.new.1.0 ≡ samples_of c.args.bytes.now =
+    let lent : let size = c.record_answer-found.result.size in take (size * size * (size + 1)) c.copy_samples.new.buffer ≡ samples_of c.args.bytes.now =
         let size = c.record_answer-found.result.size in
         let bytes = c.args.bytes.now in
         let room = sample_count-le size accepted.most in
@@ -54,7 +54,7 @@ pub list_grid-requires : goal.list_grid-requires
 list_grid-requires c =
     let accepted : Accepted 7 c.args.bytes.now c.record_answer-found.result.size c.record_answer-found.result.numbering =
         accepted-of c.args.bytes.now c.record_answer-found.result c.record_answer-found.ensures c.if-found-ne0.false in
-    let lent : let size = c.record_answer-found.result.size in take (size * size * (size + 1)) c.copy_samples.new.1.0 ≡ samples_of c.args.bytes.now =
+    let lent : let size = c.record_answer-found.result.size in take (size * size * (size + 1)) c.copy_samples.new.buffer ≡ samples_of c.args.bytes.now =
         let size = c.record_answer-found.result.size in
         let bytes = c.args.bytes.now in
         let room = sample_count-le size accepted.most in
@@ -70,7 +70,7 @@ pub returns : goal.returns
 returns c =
     let accepted : Accepted 7 c.args.bytes.now c.record_answer-found.result.size c.record_answer-found.result.numbering =
         accepted-of c.args.bytes.now c.record_answer-found.result c.record_answer-found.ensures c.if-found-ne0.false in
-    let lent : let size = c.record_answer-found.result.size in take (size * size * (size + 1)) c.copy_samples.new.1.0 ≡ samples_of c.args.bytes.now =
+    let lent : let size = c.record_answer-found.result.size in take (size * size * (size + 1)) c.copy_samples.new.buffer ≡ samples_of c.args.bytes.now =
         let size = c.record_answer-found.result.size in
         let bytes = c.args.bytes.now in
         let room = sample_count-le size accepted.most in
@@ -78,6 +78,6 @@ returns c =
         ∙ lent-samples bytes (replicate 392 (of_bits binary32 0)) (size * size * (size + 1)) accepted.samples (omega (arith, room)) in
     let owed = listing-grid c.args.bytes.now c.record_answer-found.result c.record_answer-found.ensures _ lent c.if-found-ne0.false in
     record {
-      text_after = front_of c.args.text.now c.list_grid.new.0 _ c.list_grid.result c.list_grid.ensures.put c.list_grid.ensures.upper_bound c.requires ∙ sym owed;
+      text_after = front_of c.args.text.now c.list_grid.new.text _ c.list_grid.result c.list_grid.ensures.put c.list_grid.ensures.upper_bound c.requires ∙ sym owed;
       upper_bound = c.list_grid.ensures.upper_bound;
     }
