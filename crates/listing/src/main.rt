@@ -1,7 +1,6 @@
 // The listing program of document 01: one sample record from standard input, sizes 2 to 7, and its
 // mesh or its refusal as text on standard output. What the text is stands in the contract of `list`;
 // `main` reads and writes.
-
 #![tactic(auto)]
 
 ghost use Rattle.std.specs.Prelude.{◌≡◌, ◌++◌, ◌+◌, ◌*◌, ◌/◌, ◌≤◌, length, take};
@@ -12,6 +11,8 @@ ghost use Rattle.listing.specs.Listing.{grid_text, listing_of};
 
 use listing_runs::{put_faces, put_vertices};
 use listing_text::{put_first, put_refused};
+use std::io;
+use std::io::{Read, Write};
 
 // The listing of a mesh that stands at the front of its buffers.
 fn put_mesh(
@@ -80,10 +81,10 @@ fn list(bytes: &[u8], text: &mut [u8]) -> usize
 }
 
 // A record of size 7 has 1,588 bytes; one more shows that a record is longer.
-fn main() {
-    let mut bytes = [0u8; 1589];
-    let length = io::read_full(libc::STDIN_FILENO, &mut bytes);
+fn main(rt: HostRuntime) -> io::Result<()> {
+    let mut bytes = Vec::new(rt.alloc());
+    rt.reader().take(1589).read_to_end(&mut bytes)?;
     let mut text = [0u8; 191622];
-    let end = list(&bytes[..length], &mut text);
-    io::write_all(libc::STDOUT_FILENO, &text[..end]);
+    let end = list(bytes.as_slice(), &mut text);
+    io::writer(&rt).write_all(&text[..end])
 }
