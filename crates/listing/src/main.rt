@@ -3,7 +3,7 @@
 // `main` reads and writes.
 #![tactic(auto)]
 
-ghost use Rattle.std.specs.Prelude.{◌≡◌, ◌++◌, ◌+◌, ◌*◌, ◌/◌, ◌≤◌, length, take};
+ghost use Rattle.std.specs.Prelude.{◌≡◌, ◌++◌, ◌+◌, ◌*◌, ◌/◌, ◌≤◌, length, take, IfOk};
 ghost use Rattle.listing_words.specs.Put.{Put};
 ghost use Rattle.listing_runs.specs.Runs.{lines_of, vertex_line_at, face_line_at};
 ghost use Rattle.listing_text.specs.Lines.{first_line};
@@ -80,11 +80,33 @@ fn list(bytes: &[u8], text: &mut [u8]) -> usize
     list_grid(text, found.size, found.numbering, &samples[..count])
 }
 
+// Reads until the bytes are full or the input ends, and says how many were read.
+fn read_full<R: Read>(reader: &mut R, bytes: &mut [u8]) -> io::Result<usize>
+    ensures within { IfOk result (λ count. count ≤ length bytes.new) }
+{
+    let mut count = 0;
+    'turns: for _ in 0..u64::MAX {
+        if count >= bytes.len() {
+            break 'turns;
+        }
+        match reader.read(&mut bytes[count..]) {
+            Ok(0) => break 'turns,
+            Ok(more) => count += more,
+            Err(error) => {
+                if error.kind() != io::ErrorKind::Interrupted {
+                    return Err(error);
+                }
+            }
+        }
+    }
+    Ok(count)
+}
+
 // A record of size 7 has 1,588 bytes; one more shows that a record is longer.
 fn main(rt: HostRuntime) -> io::Result<()> {
-    let mut bytes = Vec::new(rt.alloc());
-    rt.reader().take(1589).read_to_end(&mut bytes)?;
+    let mut bytes = [0u8; 1589];
+    let length = read_full(&mut rt.reader(), &mut bytes)?;
     let mut text = [0u8; 191622];
-    let end = list(bytes.as_slice(), &mut text);
+    let end = list(&bytes[..length], &mut text);
     io::writer(&rt).write_all(&text[..end])
 }
