@@ -1,9 +1,9 @@
 -- Document 01's cases W1 to W11, as one claim over a list of inputs and expected answers. Of the whole call every buffer is held: working memory of 46
 -- words that held 7, room for six vertices and seven indices.
 use mathlib.Core.Path.{◌≡◌, refl}
-use mathlib.Core.Bool.{Bool, true, false}
+use mathlib.Core.Bool.{true, false}
 use mathlib.Core.List.{List, [], ◌∷◌, ◌++◌, map}
-use Prim.Native.Nat.{ℕ, ◌+◌, ◌-◌, ◌*◌}
+use Prim.Native.Nat.{ℕ, ◌-◌, ◌*◌}
 use lib.Count.{count_leading_zeros}
 use lib.IntN.{pos, negsuc}
 use lib.ListN.{length, replicate, set}

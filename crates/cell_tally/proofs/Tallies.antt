@@ -1,12 +1,9 @@
 -- The sums that the code makes of set bits, over the cells of a mask, and that they come to the triangles and the new edges of these cells.
-use mathlib.Core.Path.{◌≡◌, refl, sym, ◌∙◌, ap, ap₂}
-use mathlib.Core.Bool.{Bool, false}
-use Prim.Native.Nat.{ℕ, ◌+◌, ◌*◌, ◌-◌, ◌/◌, ◌≤◌}
-use native.Mathlib.Omega.{arith}
-use lib.Dec.{T, leb}
+use mathlib.Core.Path.{◌≡◌, sym, ◌∙◌, ap, ap₂}
+use mathlib.Core.Bool.{Bool}
+use Prim.Native.Nat.{ℕ, ◌+◌, ◌*◌, ◌/◌, ◌≤◌}
 use lib.ListN.{length}
 use Rattle.walk.specs.Walk.{bit}
-use Rattle.walk.specs.Ownership.{owned, new_edges}
 use Rattle.cell_tally.specs.declared.Corners.{Corners}
 use Rattle.corner_signs.specs.Signs.{row_of, inside_at, faces_at, whole_at, opposite_at, crossing_at}
 use Rattle.cell_tally.specs.Tally.{is_set, in_mask, set_in, of_signs, triangles_in, new_in}

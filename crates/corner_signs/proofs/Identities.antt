@@ -1,9 +1,9 @@
 -- Of one cell, by its eight signs, computed over all 256 of them: its triangles by corners, faces and opposite corners, and its new edges by the ends of eight. New
 -- edges are counted by the twelve, since to compute their lists over all rows is slow.
 use mathlib.Core.Path.{◌≡◌, ◌∙◌}
-use mathlib.Core.Bool.{Bool, true, false, not, ◌&&◌}
+use mathlib.Core.Bool.{Bool, false, ◌&&◌}
 use mathlib.Core.List.{[], ◌∷◌}
-use Prim.Native.Nat.{ℕ, ◌+◌, ◌*◌, ◌/◌, ◌≤◌}
+use Prim.Native.Nat.{◌+◌, ◌*◌, ◌/◌, ◌≤◌}
 use lib.Dec.{T, eqb, eqb→eq, leb, leb→le}
 use lib.ListN.{length}
 use Rattle.walk.specs.Walk.{byte_of}

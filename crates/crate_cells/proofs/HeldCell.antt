@@ -9,7 +9,7 @@ use Rattle.walk.specs.Numbering.{one_more}
 use Rattle.walk.proofs.OwnedCells.{fold, times-fold}
 use Rattle.walk_models.specs.Lent.{Lent, choose_lent, lent_hooks}
 use Rattle.walk_models.specs.Owned.{edge_visit}
-use Rattle.walk_models.specs.CacheMemory.{CacheMemory, put_layer, put_row, put_memory, get_memory, crate_memory}
+use Rattle.walk_models.specs.CacheMemory.{CacheMemory, put_layer, put_row, put_memory, crate_memory}
 use Rattle.packed_tables.specs.Unpacked.{Edges}
 use Rattle.lent_mesh.specs.declared.Counts.{Counts}
 use Rattle.lent_mesh.specs.Stored.{store_at, in_hand}

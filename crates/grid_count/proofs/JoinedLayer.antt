@@ -1,9 +1,8 @@
 -- A layer of the joined numbering: the count alone changes, as it would by itself.
 use mathlib.Core.Path.{◌≡◌, refl, sym, ◌∙◌, ap}
 use mathlib.Core.List.{List}
-use Prim.Native.Nat.{ℕ, zero, suc, ◌+◌, ◌-◌, ◌<◌}
+use Prim.Native.Nat.{ℕ, zero, suc, ◌-◌, ◌<◌}
 use native.Mathlib.Omega.{arith}
-use lib.Dec.{eqb}
 use borrow.Author.Tests.{ne_eqb}
 use Rattle.walk.specs.Walk.{Inside, times}
 use Rattle.walk_models.specs.Owned.{Count, count_cell, cells_of_row, cells_of_layer}

@@ -1,18 +1,17 @@
 -- The walk over the index cache in lent memory, with the two parities worked out from the place instead of carried along: `walk_steps` of the crate numbering
 -- and the walk of `lent_hooks (crate_memory n)` go side by side.
-use mathlib.Core.Path.{◌≡◌, refl, sym, ap, ◌∙◌, subst}
-use mathlib.Core.Bool.{Bool, true, false, cond}
-use mathlib.Core.List.{List, []}
-use Prim.Native.Nat.{ℕ, zero, suc, ◌+◌, ◌-◌, ◌*◌, ◌%◌, ◌≤◌, ◌<◌}
+use mathlib.Core.Path.{◌≡◌, refl, sym, ap, ◌∙◌}
+use mathlib.Core.List.{List}
+use Prim.Native.Nat.{ℕ, zero, suc, ◌+◌, ◌-◌, ◌*◌, ◌%◌}
 use native.Mathlib.Omega.{arith}
 use native.Mathlib.Nat.{suc-mul, add-suc}
-use lib.ListN.{length, replicate}
+use lib.ListN.{length}
 use lib.Ieee.{Float}
-use Rattle.walk.specs.Walk.{Visit, Inside, Hooks, visit_of, cell_edges, times, cell, cells, rows, walk}
+use Rattle.walk.specs.Walk.{Visit, Hooks, visit_of, cell_edges, times, cell, cells, rows, walk}
 use Rattle.walk.proofs.WalkInduction.{times-kept}
 use Rattle.walk_models.specs.Lent.{Lent, choose_lent, lent_hooks}
 use Rattle.walk_models.specs.Owned.{cells_of_row, cells_of_layer}
-use Rattle.walk_models.specs.CacheMemory.{CacheMemory, put_memory, crate_memory, clear_row}
+use Rattle.walk_models.specs.CacheMemory.{CacheMemory, put_memory, crate_memory}
 use Rattle.lent_mesh.specs.Grid.{inside_of}
 use Rattle.lent_mesh.specs.Stored.{store_at}
 use Rattle.row_walk.specs.Steps.{Hand, border, unborder, layer_parity, row_parity, cell_step}

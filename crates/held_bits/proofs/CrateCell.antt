@@ -1,7 +1,7 @@
 -- One cell of the crate numbering as a count sees it. Of a number in the index cache it matters only whether it is 0: a visit finds its edge or makes it, and
 -- once vertex 0 is made, what is made is found from then on. So a cell makes the edges that its row names and that are not found at its start, each once.
 use mathlib.Core.Path.{◌≡◌, refl, sym, ap, ap₂, ◌∙◌, subst}
-use mathlib.Core.Logic.{◌⊎◌, ⊎_elim}
+use mathlib.Core.Logic.{⊎_elim}
 use mathlib.Core.Bool.{Bool, true, false, cond, not, ◌&&◌, ◌||◌, beq, and-false, or-false, true≢false, false≢true}
 use mathlib.Core.List.{List, [], ◌∷◌, ◌++◌}
 use Prim.Native.Nat.{ℕ, suc, ◌+◌, ◌-◌, ◌*◌, ◌<◌}

@@ -1,11 +1,8 @@
 -- The class of a cell from that of its row: only the row's first cell has x = 0.
 use mathlib.Core.Path.{◌≡◌, ◌∙◌}
-use mathlib.Core.Bool.{Bool}
-use Prim.Native.Nat.{ℕ, ◌+◌, ◌*◌}
+use Prim.Native.Nat.{ℕ, ◌+◌}
 use native.Mathlib.Omega.{arith}
-use lib.Dec.{eqb}
 use borrow.Author.Tests.{eq-eqb, ne_eqb}
-use Rattle.walk.specs.Walk.{bit}
 use Rattle.joined_slots.specs.OneCell.{class_of}
 
 pub class-first : (class x y z : ℕ) → x ≡ 0 → class ≡ class_of 1 y z → class + 1 ≡ class_of x y z

@@ -1,11 +1,10 @@
 -- What 32 cells come to by their corners' words is what they come to one after another.
-use mathlib.Core.Path.{◌≡◌, refl, sym, ◌∙◌, ap, ap₂}
+use mathlib.Core.Path.{◌≡◌, sym, ◌∙◌, ap, ap₂}
 use mathlib.Core.Bool.{Bool, true, false, cond}
 use mathlib.Core.List.{List}
-use Prim.Native.Nat.{ℕ, zero, suc, ◌+◌, ◌-◌, ◌*◌, ◌/◌, ◌%◌, ◌≤◌, ◌<◌}
+use Prim.Native.Nat.{ℕ, zero, suc, ◌+◌, ◌-◌, ◌*◌, ◌/◌, ◌≤◌, ◌<◌}
 use native.Mathlib.Nat.{add-zero, add-suc, add_assoc}
 use native.Mathlib.Omega.{arith}
-use native.Mathlib.Decide.{dec_lt}
 use lib.Dec.{eqb, ltb}
 use lib.ListN.{length}
 use borrow.Author.Tests.{lt-ltb, le-ltb, ne_eqb}
@@ -19,9 +18,9 @@ use Rattle.sign_cells.specs.Cells.{cells_in}
 use Rattle.cell_tally.specs.declared.Corners.{Corners}
 use Rattle.corner_signs.specs.Signs.{row_of}
 use Rattle.cell_tally.specs.Tally.{total, is_set, in_mask, of_signs, triangles_in, new_in}
-use Rattle.cell_tally.proofs.Sums.{total-same, total-times, total_mono, in_mask-times}
+use Rattle.cell_tally.proofs.Sums.{total-same, total_mono, in_mask-times}
 use Rattle.corner_signs.proofs.Identities.{row-threes}
-use Rattle.layer_tally.specs.Layer.{SignsOf, word_step}
+use Rattle.layer_tally.specs.Layer.{SignsOf}
 
 -- a sum of which only the first m terms count
 total-cut : (f h : ℕ → ℕ) (b : ℕ → Bool) (m d : ℕ) → ((j : ℕ) → j < m → b j ≡ true) → ((j : ℕ) → m ≤ j → j < m + d → b j ≡ false)

@@ -17,7 +17,6 @@ use Rattle.lent_mesh.specs.Grid.{inside_of}
 use Rattle.sign_words.specs.Words.{inside_row, LayerWords}
 use Rattle.sign_words.proofs.Words.{word_of-bit}
 use Rattle.sign_words.proofs.OneBit.{or-bit, shift-bit, multiple-bit}
-use Rattle.cell_tally.specs.declared.Corners.{Corners}
 use Rattle.cell_tally.specs.Tally.{is_set}
 use Rattle.cell_tally.proofs.SetBits.{is_set-bit}
 use Rattle.layer_tally.specs.Layer.{NextFrom, CornersFrom}

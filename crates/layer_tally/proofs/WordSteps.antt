@@ -1,6 +1,5 @@
 -- Words after words are cells after cells and rows after rows: one word more, four words for a row, and a layer whose first rows are outside.
 use mathlib.Core.Path.{◌≡◌, refl, sym, ◌∙◌, ap, ap₂}
-use mathlib.Core.Bool.{Bool}
 use mathlib.Core.List.{List, []}
 use Prim.Native.Nat.{ℕ, zero, suc, ◌+◌, ◌-◌, ◌*◌, ◌/◌, ◌%◌, ◌≤◌, ◌<◌, min}
 use native.Mathlib.Nat.{add-zero}
@@ -20,7 +19,7 @@ use Rattle.sign_cells.proofs.SetBits.{times-add, times-word}
 use Rattle.sign_cells.proofs.Turns.{times-idle}
 use Rattle.cell_tally.specs.declared.Corners.{Corners}
 use Rattle.cell_tally.specs.Tally.{is_set, triangles_in, new_in}
-use Rattle.layer_tally.specs.Layer.{Masks, Firsts, CornersFrom, word_step, WordsCounted, RowsOutside, LayerCounted}
+use Rattle.layer_tally.specs.Layer.{Masks, Firsts, CornersFrom, word_step, WordsCounted}
 use Rattle.layer_tally.proofs.CellCounts.{triangles-word, new_word, cells-counted}
 
 times-same : {S : Type 0} (f g : ℕ → S → S) (k : ℕ) (s : S) → ((i : ℕ) (t : S) → f i t ≡ g i t) → times k f s ≡ times k g s

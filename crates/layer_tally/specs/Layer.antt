@@ -1,6 +1,6 @@
 -- The cells of a layer word by word: row y has the words 4 * y to 4 * y + 3, of 32 cells each. A private model, which the contracts of the count cite; nobody
 -- need believe it.
-use Rattle.std.specs.Prelude.{◌≡◌, Bool, ◌&&◌, List, [], ℕ, ◌+◌, ◌-◌, ◌*◌, ◌/◌, ◌%◌, ◌≤◌, ◌<◌, eqb, ltb, get_or, Float}
+use Rattle.std.specs.Prelude.{◌≡◌, List, [], ℕ, ◌+◌, ◌-◌, ◌*◌, ◌/◌, ◌%◌, ◌≤◌, ◌<◌, eqb, ltb, get_or, Float}
 use Rattle.walk.specs.Walk.{Inside, cell_edges, times}
 use Rattle.walk_models.specs.Owned.{Count, count_cell, cells_of_layer}
 use Rattle.lent_mesh.specs.Grid.{inside_of}

@@ -1,11 +1,11 @@
 -- The floats that a run leaves: those of the vertices of its visits, in order, then what the list held. Where there is room for all of them.
-use mathlib.Core.Path.{◌≡◌, refl, sym, ap, ◌∙◌}
+use mathlib.Core.Path.{◌≡◌, refl, ap, ◌∙◌}
 use mathlib.Core.List.{List, [], ◌∷◌, ◌++◌, map}
-use Prim.Native.Nat.{ℕ, zero, suc, ◌+◌, ◌*◌, ◌≤◌, ◌<◌}
-use native.Mathlib.Nat.{add-suc, suc-add, add-zero, zero-add}
+use Prim.Native.Nat.{ℕ, suc, ◌+◌, ◌*◌, ◌≤◌}
+use native.Mathlib.Nat.{zero-add}
 use native.Mathlib.Omega.{arith}
-use lib.ListN.{length, set, drop, length-set, length-map}
-use lib.Seq.{sets, length-sets, sets-eq}
+use lib.ListN.{length, set, drop, length-map}
+use lib.Seq.{sets, sets-eq}
 use lib.Ieee.{Float}
 use Rattle.marching_cubes_impl.specs.declared.vertex.Vertex.{Vertex}
 use Rattle.walk.specs.Walk.{Visit}

@@ -1,5 +1,4 @@
 -- Places in the lent list of samples: they are in the list, and small enough to be worked out.
-use mathlib.Core.Path.{◌≡◌}
 use mathlib.Core.List.{List}
 use Prim.Native.Nat.{ℕ, ◌+◌, ◌*◌, ◌≤◌, ◌<◌}
 use native.Mathlib.Nat.{le_trans, mul-le-mul_right, mul-le-mul_left, mul-le-mul, suc-mul}

@@ -1,7 +1,7 @@
 -- The vertex that `vertex_on` works out is the defined one, where its six offsets are those of the tables.
 use mathlib.Core.Path.{◌≡◌, ◌∙◌}
 use mathlib.Core.List.{List}
-use Prim.Native.Nat.{ℕ, ◌+◌, ◌≤◌, ◌<◌}
+use Prim.Native.Nat.{ℕ, ◌+◌, ◌≤◌}
 use native.Mathlib.Omega.{arith}
 use lib.ListN.{get_or}
 use lib.Ieee.{Float, nan}

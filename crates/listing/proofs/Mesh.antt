@@ -1,12 +1,12 @@
 -- What the extraction answers to the program, told by the answer's cause: the text that the definition has for the grid. `list_grid` cites
 -- `own-refused`, `own-mesh` and `own_room`.
 use mathlib.Core.Path.{◌≡◌, refl, sym, ap, ◌∙◌, subst}
-use mathlib.Core.Logic.{◌⊎◌, inl, inr, ⊎_elim}
+use mathlib.Core.Logic.{⊎_elim}
 use mathlib.Core.List.{List, ◌++◌, map}
 use Prim.Native.Nat.{ℕ, zero, suc, ◌+◌, ◌*◌, ◌/◌, ◌≤◌, ◌<◌}
 use native.Mathlib.Nat.{lt-suc_self, lt_trans}
 use native.Mathlib.Omega.{arith}
-use lib.ListN.{length, get_or, drop, replicate, length-map, get_or-append}
+use lib.ListN.{length, drop, replicate, length-map, get_or-append}
 use lib.Ieee.{Float, nan, binary32, of_bits}
 use borrow.Author.Tests.{lt-ltb, le-ltb}
 use Rattle.marching_cubes_tables.proofs.Tests.{lt-or-ge}

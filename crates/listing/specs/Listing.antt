@@ -4,7 +4,7 @@ use Rattle.sample_record.specs.Record.{record_of, cause_of, place_of, size_of, n
 use Rattle.record_samples.specs.Samples.{samples_of}
 use Rattle.sample_check.specs.Samples.{lowest_bad}
 use Rattle.lent_mesh.specs.Grid.{position_at, floats_of}
-use Rattle.outcome.specs.Outcome.{Surface, surface_of}
+use Rattle.outcome.specs.Outcome.{surface_of}
 use Rattle.listing_text.specs.Lines.{refused_line, mesh_text}
 
 -- the mesh of an accepted grid, or cause 5

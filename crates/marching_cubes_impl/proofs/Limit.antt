@@ -2,11 +2,11 @@
 use mathlib.Core.Path.{◌≡◌, refl, sym, ap, ◌∙◌, subst}
 use mathlib.Core.Logic.{◌⊎◌, inl, inr}
 use Prim.Native.Nat.{ℕ, ◌+◌, ◌*◌, ◌^◌, ◌≤◌, ◌<◌}
-use native.Mathlib.Nat.{mul-one, one-mul, mul_comm, mul-pos, le_of_eq, eq-or-lt_of_le, not-le_of_lt}
+use native.Mathlib.Nat.{mul-one, mul-pos, le_of_eq, eq-or-lt_of_le}
 use native.Mathlib.Omega.{arith}
-use mathlib.Core.Bool.{Bool, true, false, not, ◌&&◌, ◌||◌, cond}
+use mathlib.Core.Bool.{Bool, true, false, ◌&&◌, ◌||◌, cond}
 use lib.IntN.{ℤ, pos}
-use lib.Dec.{T, leb, ltb, eqb, ltb→lt, lt→ltb, leb→le, le→leb, eqb→eq, eqb_refl, nltb→le, nleb→lt, lit<}
+use lib.Dec.{T, leb, ltb, eqb, ltb→lt, lt→ltb, leb→le, le→leb, eqb→eq, eqb_refl, lit<}
 use lib.Ieee.{Float, nan, inf, fin, up, down, le, neg}
 use lib.Ieee.Fits.{down_pos}
 use Rattle.marching_cubes_impl.specs.Sample.{good}

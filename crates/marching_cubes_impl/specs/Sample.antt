@@ -1,5 +1,5 @@
 -- One sample: whether it is inside, and whether it is refused. Document 01, "Grid and walk" and cause 5 of its table.
-use Rattle.std.specs.Prelude.{Bool, true, false, ℕ, ◌*◌, ◌^◌, leb, pos, negsuc, Float}
+use Rattle.std.specs.Prelude.{Bool, false, ◌*◌, ◌^◌, leb, pos, negsuc, Float}
 use Rattle.std.specs.Float.{nan, inf, fin}
 use Rattle.std.specs.Float.Ieee.{up, down, le}
 

@@ -1,6 +1,6 @@
 -- Rows of one length in one flat list, and a rule of a table's rows by one test that is computed over the whole table.
-use mathlib.Core.Path.{◌≡◌, refl, sym, ◌∙◌, ap, subst}
-use mathlib.Core.Bool.{Bool, true, false, ◌&&◌}
+use mathlib.Core.Path.{◌≡◌, sym, ◌∙◌, ap, subst}
+use mathlib.Core.Bool.{Bool, true, ◌&&◌}
 use mathlib.Core.List.{List, [], ◌∷◌, ◌++◌}
 use Prim.Native.Nat.{ℕ, zero, suc, ◌+◌, ◌*◌, ◌<◌}
 use native.Mathlib.Nat.{add-zero, zero-add, add-suc, suc-add, mul-zero, le_of_suc-le-suc, not-suc-le-zero}

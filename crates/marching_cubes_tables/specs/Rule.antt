@@ -1,5 +1,5 @@
 -- What each row of the triangle table is: document 01, "Grid and walk", the paragraph "Over the table". `proofs/Rule.antt` proves it of all 256 rows.
-use Rattle.std.specs.Prelude.{◌≡◌, Bool, true, false, not, ◌&&◌, ◌||◌, List, [], ◌∷◌, ℕ, ◌/◌, ◌%◌, ◌^◌, ◌≤◌, ◌<◌, eqb, ltb, ℤ, pos, negsuc, length, get_or}
+use Rattle.std.specs.Prelude.{◌≡◌, Bool, false, not, ◌&&◌, ◌||◌, List, [], ◌∷◌, ℕ, ◌/◌, ◌%◌, ◌^◌, ◌≤◌, ◌<◌, eqb, ltb, ℤ, pos, negsuc, length, get_or}
 use Rattle.marching_cubes_tables.specs.Tables.{edge_end, row}
 
 -- the entries of a row up to the first negative one

@@ -7,7 +7,7 @@ use native.Mathlib.Omega.{arith}
 use lib.Dec.{T, eqb, ltb, leb, eqb→eq, lt→ltb, lit≤}
 use lib.IntN.{ℤ, pos, negsuc}
 use lib.Pow.{pow-add, pow_pos, pow_mono, pow-lt, shl_lt}
-use lib.Ieee.{Float, fin, binary32, low, up, down, round, sum, add, mul, div, of_int, of_bits, fits, nan, inf}
+use lib.Ieee.{Float, fin, binary32, up, down, round, sum, add, mul, div, of_int, of_bits, fits, nan, inf}
 use lib.Ieee.Fits.{and_l, down_pos, add-fits, div-fits, of_int-fits}
 use lib.Ieee.Exact.{HasValue, round_exact}
 use lib.Ieee.Scale.{round_same}

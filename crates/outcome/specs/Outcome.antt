@@ -1,6 +1,6 @@
 -- What `extract` answers and leaves in all memory lent to it: document 01, "Causes, numbers and what is left behind". Held to W1 to W11 by
 -- crates/cases, and to the Rust by the oracle.
-use Rattle.std.specs.Prelude.{Bool, cond, not, ◌||◌, List, [], ◌∷◌, ◌++◌, map, ℕ, ◌+◌, ◌*◌, eqb, ltb, length, drop, replicate, Float}
+use Rattle.std.specs.Prelude.{cond, not, ◌||◌, List, [], ◌++◌, map, ℕ, ◌+◌, ◌*◌, eqb, ltb, length, drop, replicate, Float}
 use Rattle.walk.specs.Walk.{Visit}
 use Rattle.walk.specs.Cache.{fresh}
 use Rattle.walk.specs.Numbering.{Mesh, mesh, joined, crate}

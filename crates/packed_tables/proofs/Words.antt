@@ -4,11 +4,10 @@ use mathlib.Core.Bool.{Bool, true, false, ◌&&◌}
 use mathlib.Core.List.{List, [], ◌∷◌}
 use Prim.Native.Nat.{ℕ, zero, suc, ◌+◌, ◌*◌, ◌/◌, ◌%◌, ◌^◌, ◌<◌}
 use native.Mathlib.Nat.{le_of_suc-le-suc, not-suc-le-zero}
-use native.Mathlib.Omega.{arith}
-use lib.Dec.{T, eqb, eqb→eq, lit<}
+use lib.Dec.{T, eqb, eqb→eq}
 use lib.IntN.{ℤ}
 use lib.ListN.{length, get_or}
-use Rattle.marching_cubes_tables.specs.Tables.{triangle_connection, row, flat}
+use Rattle.marching_cubes_tables.specs.Tables.{triangle_connection, row}
 use Rattle.marching_cubes_tables.specs.Rule.{named, row_edges}
 use Rattle.marching_cubes_tables.proofs.Tests.{both_left, both_right}
 use Rattle.marching_cubes_tables.proofs.Rows.{every, every-at, wide, flat-at}

@@ -1,10 +1,10 @@
 -- What the walk's code leaves is the defined mesh, stored from the start, in either numbering, though it stops after the last layer that adds something; and
 -- the working memory past what the size asks for is as it was.
 use mathlib.Core.Path.{◌≡◌, refl, sym, ap, ◌∙◌, subst}
-use mathlib.Core.Bool.{Bool, true, false, cond}
-use mathlib.Core.Logic.{◌⊎◌, inl, inr, ⊎_elim}
-use mathlib.Core.List.{List, []}
-use Prim.Native.Nat.{ℕ, zero, suc, ◌+◌, ◌-◌, ◌*◌, ◌%◌, ◌≤◌, ◌<◌}
+use mathlib.Core.Bool.{true, false}
+use mathlib.Core.Logic.{⊎_elim}
+use mathlib.Core.List.{List}
+use Prim.Native.Nat.{ℕ, ◌+◌, ◌-◌, ◌*◌, ◌%◌, ◌≤◌, ◌<◌}
 use native.Mathlib.Nat.{zero-mul}
 use native.Mathlib.Omega.{arith}
 use lib.Dec.{eqb}
@@ -12,9 +12,7 @@ use lib.ListN.{length, get_or, drop, replicate}
 use lib.Seq.{sets, drop-drop}
 use lib.Ieee.{Float}
 use borrow.Author.Tests.{eqb-true}
-use Rattle.walk.specs.Walk.{Inside, times, visits}
-use Rattle.walk.specs.Cache.{fresh}
-use Rattle.walk.specs.Numbering.{mesh, joined, crate}
+use Rattle.walk.specs.Walk.{visits}
 use Rattle.walk.proofs.Bools.{bool_cases}
 use Rattle.walk.proofs.WalkInduction.{times-kept}
 use Rattle.walk_models.specs.Lent.{Lent, untouched, store_all}
@@ -24,7 +22,7 @@ use Rattle.walk_models.proofs.OwnedWalk.{owned-walk}
 use Rattle.walk_models.proofs.CacheWalk.{cache-walk}
 use Rattle.lent_mesh.specs.Grid.{inside_of}
 use Rattle.lent_mesh.specs.Stored.{store_at}
-use Rattle.outcome.specs.Outcome.{work_room, Surface, surface, surface_of}
+use Rattle.outcome.specs.Outcome.{work_room, Surface, surface_of}
 use Rattle.grid_walk.specs.declared.Span.{Span}
 use Rattle.grid_walk.specs.Growth.{GrowsWithin}
 use Rattle.row_walk.specs.Steps.{Hand, row_parity, cell_step}

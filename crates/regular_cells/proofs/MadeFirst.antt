@@ -1,7 +1,7 @@
 -- The visits of a cell in two passes: the edges that have no number are made first, each where the row first names it, and the row is then named. It is
 -- the same as visit by visit where a vertex has been made before, for then no number that is given reads as absent. For `regular_visits`.
 use mathlib.Core.Path.{◌≡◌, refl, sym, ap, ◌∙◌}
-use mathlib.Core.Logic.{◌⊎◌, ⊎_elim}
+use mathlib.Core.Logic.{⊎_elim}
 use mathlib.Core.Bool.{Bool, true, false, cond, not, ◌&&◌, ◌||◌, and-true, and-false, true≢false}
 use mathlib.Core.List.{List, [], ◌∷◌}
 use Prim.Native.Nat.{ℕ, zero, suc, ◌+◌, ◌<◌}

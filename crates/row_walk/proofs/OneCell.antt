@@ -12,7 +12,7 @@ use Rattle.walk_models.specs.CacheMemory.{crate_memory}
 use Rattle.lent_mesh.specs.Grid.{inside_of}
 use Rattle.lent_mesh.specs.Stored.{store_at, CellOf}
 use Rattle.row_walk.specs.Steps.{Hand, border, unborder, layer_parity, row_parity, cell_step}
-use Rattle.row_walk.specs.Ready.{LayerOf, RowOf}
+use Rattle.row_walk.specs.Ready.{RowOf}
 
 module _ (numbering n : ℕ) (samples : List Float) (z y x : ℕ) (s t : Hand) where
   pub crate-step : (row : ℕ) → numbering ≡ 0 → row ≡ row_parity n z y

@@ -1,15 +1,15 @@
 -- The cells of a word and of a row in lent memory: those whose bit is 0 visit nothing and are passed over.
-use mathlib.Core.Path.{◌≡◌, refl, sym, ap, ◌∙◌}
+use mathlib.Core.Path.{◌≡◌, refl}
 use mathlib.Core.Bool.{Bool, true, false, cond}
 use mathlib.Core.List.{List, []}
-use Prim.Native.Nat.{ℕ, zero, suc, ◌+◌, ◌-◌, ◌*◌, ◌^◌, ◌≤◌, ◌<◌}
+use Prim.Native.Nat.{ℕ, ◌+◌, ◌-◌, ◌*◌, ◌^◌, ◌≤◌, ◌<◌}
 use native.Mathlib.Omega.{arith}
 use lib.Dec.{eqb}
 use lib.Bits.{bit_and}
 use lib.Count.{count_trailing_zeros}
 use lib.Ieee.{Float}
 use Rattle.marching_cubes_tables.specs.Rule.{bit_at}
-use Rattle.walk.specs.Walk.{bit, cell_edges, times}
+use Rattle.walk.specs.Walk.{cell_edges, times}
 use Rattle.walk_models.specs.Owned.{Count, cells_of_row}
 use Rattle.walk_models.proofs.Idle.{owned_cell-idle, crate_cell-idle}
 use Rattle.lent_mesh.specs.Grid.{inside_of}
@@ -18,7 +18,7 @@ use Rattle.sign_cells.specs.Cells.{cells_in, active_word}
 use Rattle.sign_cells.proofs.ActiveCells.{active_word-lt, active_word-idle}
 use Rattle.sign_cells.proofs.LowestBits.{Onward, onward-found, onward-next, onward-last}
 use Rattle.sign_cells.proofs.Turns.{times-idle}
-use Rattle.row_walk.specs.Steps.{Hand, border, unborder, layer_parity, row_parity, cell_step}
+use Rattle.row_walk.specs.Steps.{Hand, border, layer_parity, row_parity, cell_step}
 
 -- a cell that visits nothing is passed over
 cell_step-idle : (numbering n : ℕ) (samples : List Float) (z y x : ℕ) (s : Hand) → cell_edges (inside_of n samples) x y z ≡ []

@@ -3,7 +3,7 @@
 use mathlib.Core.Path.{◌≡◌, refl}
 use mathlib.Core.Bool.{true, false}
 use mathlib.Core.List.{List, [], ◌∷◌, ◌++◌, map}
-use Prim.Native.Nat.{ℕ, ◌+◌, ◌/◌, ◌%◌}
+use Prim.Native.Nat.{ℕ, ◌/◌, ◌%◌}
 use lib.IntN.{pos, negsuc}
 use lib.ListN.{replicate, take}
 use lib.Ieee.{Float, nan, fin, of_bits}

@@ -1,7 +1,7 @@
 -- The row test in the words of CR 9: on each face of a cell the net sides of its row follow from the four corner signs, and sides between edges of no
 -- common face cancel within the row. The theorem rests on `row-net` itself; these say what it says.
 use mathlib.Core.Path.{◌≡◌, refl, sym, ap, ◌∙◌}
-use mathlib.Core.Logic.{◌⊎◌, ⊎_elim}
+use mathlib.Core.Logic.{⊎_elim}
 use mathlib.Core.Bool.{Bool, true, false, cond, not, ◌||◌, and_comm, or-true, false≢true}
 use mathlib.Core.List.{List, [], ◌∷◌, map}
 use Prim.Native.Nat.{ℕ, zero, suc, ◌+◌, ◌<◌}

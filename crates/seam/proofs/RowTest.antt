@@ -1,7 +1,7 @@
 -- CR 9's one test over all 256 rows, computed: the sides of a row, less those that its corner signs put on the six faces, pair off, each with one
 -- that runs back. Under any names for the edges, then, the net sides of the row are those of the faces.
 use mathlib.Core.Path.{◌≡◌, refl, sym, ap, ◌∙◌}
-use mathlib.Core.Logic.{◌⊎◌, ⊎_elim}
+use mathlib.Core.Logic.{⊎_elim}
 use mathlib.Core.Bool.{Bool, true, false, cond, ◌&&◌, ◌||◌, and_comm, false≢true}
 use mathlib.Core.List.{List, [], ◌∷◌, ◌++◌, map}
 use Prim.Native.Nat.{ℕ, zero, suc, ◌+◌}

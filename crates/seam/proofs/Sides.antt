@@ -1,7 +1,7 @@
 -- Lists of directed sides: how many run from one end to another, in appended, turned and renamed lists, and where none can. It serves the row test,
 -- where an end is one of twelve edges, and the sum over the cells, where it is a grid edge.
 use mathlib.Core.Path.{◌≡◌, refl, sym, ap, ◌∙◌}
-use mathlib.Core.Logic.{◌⊎◌, ⊎_elim}
+use mathlib.Core.Logic.{⊎_elim}
 use mathlib.Core.Bool.{Bool, true, false, cond, ◌&&◌, and_comm, false≢true}
 use mathlib.Core.List.{List, [], ◌∷◌, ◌++◌, map}
 use Prim.Native.Nat.{ℕ, ◌+◌, ◌%◌}

@@ -1,19 +1,18 @@
 -- Rows that are outside throughout: the words of both layers are 0, so no sample of them is inside and no cell between them visits anything.
-use mathlib.Core.Path.{◌≡◌, refl, sym, ap, ◌∙◌, subst}
-use mathlib.Core.Bool.{Bool, true, false, ◌&&◌}
+use mathlib.Core.Path.{◌≡◌, sym, ap, ◌∙◌, subst}
+use mathlib.Core.Bool.{Bool, false, ◌&&◌}
 use mathlib.Core.List.{List, []}
 use Prim.Native.Nat.{ℕ, ◌+◌, ◌*◌, ◌/◌, ◌%◌, ◌^◌, ◌≤◌, ◌<◌}
 use native.Mathlib.Nat.{zero-div}
 use native.Mathlib.Decide.{dec_lt}
 use native.Mathlib.Omega.{arith}
-use lib.Bits.{bit_or, bit_and, or_add_and, and_le_l, and_le_r}
-use lib.Dec.{ltb}
+use lib.Bits.{bit_or, or_add_and, and_le_l, and_le_r}
 use lib.ListN.{get_or}
 use lib.Ieee.{Float}
 use borrow.Author.Tests.{lt-ltb}
 use Rattle.marching_cubes_tables.specs.Rule.{bit_at}
-use Rattle.walk.specs.Walk.{Inside, bit, signs, cell_edges}
-use Rattle.walk.proofs.SignByte.{byte, signs-byte}
+use Rattle.walk.specs.Walk.{bit, cell_edges}
+use Rattle.walk.proofs.SignByte.{signs-byte}
 use Rattle.walk.proofs.CellEdges.{cell_edges-outside}
 use Rattle.lent_mesh.specs.Grid.{inside_of}
 use Rattle.sign_words.specs.Words.{word_of, inside_row, LayerWords}

@@ -1,13 +1,13 @@
 -- The words of a row: the one that the code chooses is the defined one, and rows filled one after the other make a layer.
 use mathlib.Core.Path.{◌≡◌, refl, sym, ◌∙◌, ap}
-use mathlib.Core.Bool.{Bool, true, false, ◌&&◌}
+use mathlib.Core.Bool.{Bool, false, ◌&&◌}
 use mathlib.Core.List.{List}
 use Prim.Native.Nat.{ℕ, ◌+◌, ◌*◌, ◌-◌, ◌%◌, ◌^◌, ◌≤◌, ◌<◌}
 use native.Mathlib.Nat.{add_assoc, le_trans, mul-le-mul_right, mul-le-mul_left}
 use native.Mathlib.Decide.{dec_lt}
 use native.Mathlib.Omega.{arith}
 use lib.Dec.{ltb}
-use lib.ListN.{get_or, length, set, length-set}
+use lib.ListN.{get_or, length, set}
 use lib.Seq.{get_or-set_same, get_or-set_other}
 use lib.Bits.{bit_or}
 use lib.Ieee.{Float, nan}
@@ -15,7 +15,7 @@ use mir.Val.{bool_byte}
 use borrow.Author.Tests.{lt-ltb, le-ltb}
 use Rattle.marching_cubes_impl.specs.Sample.{inside}
 use Rattle.lent_mesh.proofs.Places.{in-row-lt}
-use Rattle.sign_words.specs.Words.{word_of, sign_word, word_from, inside_row, LayerWords, WordsFilled, RowFilled}
+use Rattle.sign_words.specs.Words.{word_of, sign_word, word_from, inside_row, WordsFilled, RowFilled}
 use Rattle.sign_words.proofs.Words.{word_of-turn, word_of-same, word_of-top}
 
 -- ---- a turn of the loop of `part_word`

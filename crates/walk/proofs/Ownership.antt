@@ -1,10 +1,10 @@
 -- The joined numbering along the walk: before each visit, the edges met are the crossing edges whose home is an earlier cell, and those that this
 -- cell has named. So whether a visit makes a vertex follows from the cell's place.
 use mathlib.Core.Path.{◌≡◌, refl, sym, ap, ◌∙◌, subst}
-use mathlib.Core.Logic.{◌⊎◌, ⊎_elim}
+use mathlib.Core.Logic.{⊎_elim}
 use mathlib.Core.Bool.{Bool, true, false, ◌&&◌, ◌||◌, not, and-true, and-false, or-false, or-true, false≢true}
 use mathlib.Core.List.{List, [], ◌∷◌, ◌++◌, map, map-append}
-use Prim.Native.Nat.{ℕ, zero, suc, ◌+◌, ◌-◌, ◌<◌, ◌≤◌}
+use Prim.Native.Nat.{ℕ, zero, suc, ◌-◌, ◌<◌, ◌≤◌}
 use native.Mathlib.Nat.{not-suc-le-zero}
 use native.Mathlib.Decide.{dec_lt}
 use native.Mathlib.Omega.{arith}

@@ -2,7 +2,7 @@
 -- rendering of a numbering in other memory.
 use mathlib.Core.Path.{◌≡◌, refl, sym, ap, ap₂, subst}
 use mathlib.Core.List.{List, [], ◌∷◌, ◌++◌}
-use Prim.Native.Nat.{ℕ, zero, suc, ◌+◌, ◌-◌, ◌<◌}
+use Prim.Native.Nat.{ℕ, zero, suc, ◌+◌, ◌<◌}
 use native.Mathlib.Omega.{arith}
 use lib.ListN.{length}
 use Rattle.walk.specs.Walk.{Visit, Inside, visit_of}

@@ -2,7 +2,7 @@
 -- the crate numbering names a stale vertex.
 use mathlib.Core.Path.{◌≡◌, refl}
 use mathlib.Core.List.{List, [], ◌∷◌}
-use Prim.Native.Nat.{ℕ, ◌+◌, ◌-◌, ◌*◌}
+use Prim.Native.Nat.{ℕ, ◌+◌, ◌*◌}
 use lib.ListN.{get_or, set, replicate}
 use Rattle.marching_cubes_tables.specs.Tables.{corners, edge_connection, triangle_connection}
 use Rattle.marching_cubes_tables.specs.Rule.{row_edges, member}

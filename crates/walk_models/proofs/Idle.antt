@@ -1,7 +1,7 @@
 -- A cell that visits nothing changes nothing, in either rendering: so a loop may pass over such cells.
 use mathlib.Core.Path.{◌≡◌, sym, ap, ◌∙◌}
 use mathlib.Core.List.{List, []}
-use Prim.Native.Nat.{ℕ, ◌-◌}
+use Prim.Native.Nat.{ℕ}
 use lib.Dec.{eqb}
 use lib.ListN.{length, get_or, replicate}
 use Rattle.walk.specs.Walk.{Visit, Inside, visit_of, cell_edges, times, cell}

@@ -1,7 +1,7 @@
 -- The joined numbering's window of the working memory: while the walk is in layer z, the edges that its cells have are live, two live edges with one
 -- slot are one edge, and the slot of a live edge that is met holds its number. No mark, and nothing to clear from layer to layer.
 use mathlib.Core.Path.{◌≡◌, refl, sym, ap, ◌∙◌}
-use mathlib.Core.Logic.{◌⊎◌, ⊎_elim}
+use mathlib.Core.Logic.{⊎_elim}
 use mathlib.Core.Bool.{Bool, true, false, ◌&&◌, ◌||◌, false≢true}
 use mathlib.Core.List.{List, [], ◌∷◌, ◌++◌}
 use Prim.Native.Nat.{ℕ, zero, suc, ◌+◌, ◌-◌, ◌*◌, ◌%◌, ◌<◌, ◌≤◌}

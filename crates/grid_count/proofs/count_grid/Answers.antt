@@ -1,6 +1,6 @@
 -- `count_grid`: layer after layer, from nothing counted.
 use mathlib.Core.Path.{◌≡◌, refl, sym, ap, ◌∙◌}
-use Prim.Native.Nat.{ℕ, ◌+◌, ◌-◌, ◌%◌, zero-le}
+use Prim.Native.Nat.{ℕ, ◌+◌, ◌%◌, zero-le}
 use native.Mathlib.Nat.{zero-mul}
 use native.Mathlib.Omega.{arith}
 use Rattle.walk.specs.Walk.{times}

@@ -1,6 +1,5 @@
 -- `clear_held`: after x turns the first x places are cleared.
 use mathlib.Core.Path.{◌≡◌, refl}
-use Prim.Native.Nat.{◌-◌}
 use native.Mathlib.Omega.{arith}
 use lib.ListN.{length-set}
 use Rattle.walk.specs.Walk.{times}

@@ -1,6 +1,5 @@
 -- `clear_row`: after x turns the first x places are cleared.
 use mathlib.Core.Path.{◌≡◌, refl}
-use Prim.Native.Nat.{◌-◌}
 use native.Mathlib.Omega.{arith}
 use Rattle.walk.specs.Walk.{times}
 use Rattle.walk_models.specs.CacheMemory.{clear_row}

@@ -1,6 +1,6 @@
 -- `joined_cell`: the two words hold the new edges and the row, so the two passes are the cell.
-use mathlib.Core.Path.{◌≡◌, refl}
-use Prim.Native.Nat.{ℕ, ◌+◌, ◌*◌, ◌<◌}
+use mathlib.Core.Path.{refl}
+use Prim.Native.Nat.{◌+◌, ◌*◌, ◌<◌}
 use native.Mathlib.Nat.{le_refl, add-le-add, lt_of_le_of_lt}
 use native.Mathlib.Omega.{arith}
 use lib.ListN.{length, get_or}
@@ -8,7 +8,6 @@ use borrow.Author.Rules.{rules}
 use Rattle.lent_mesh.specs.Grid.{inside_of}
 use Rattle.lent_mesh.specs.Stored.{store_at, in_hand}
 use Rattle.lent_mesh.proofs.Places.{row_small}
-use Rattle.joined_slots.specs.OneCell.{SlotsFrom}
 use Rattle.joined_slots.proofs.TwelveSlots.{slots-from, slot-in-work}
 use Rattle.joined_edges.proofs.CellWords.{Words, words, case-lt, class-lt, counts-grown, cell-passes}
 use Rattle.joined_edges.proofs.joined_cell.Goals as goal

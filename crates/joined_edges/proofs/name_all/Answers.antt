@@ -1,8 +1,7 @@
 -- `name_all`: what is left of the list, named from here, is the whole of it named from the start. A turn names three edges.
 use mathlib.Core.Path.{refl, sym, ◌∙◌}
-use Prim.Native.Nat.{ℕ, ◌+◌, ◌-◌, ◌*◌, ◌/◌, ◌%◌, ◌<◌}
+use Prim.Native.Nat.{◌-◌, ◌*◌, ◌/◌, ◌%◌, ◌<◌}
 use native.Mathlib.Omega.{arith}
-use lib.ListN.{length, get_or}
 use Rattle.walk_models.specs.Owned.{name_edge}
 use Rattle.packed_tables.specs.Unpacked.{unpacked, Edges}
 use Rattle.joined_edges.proofs.PackedSteps.{three-edges, each_none, name-three}

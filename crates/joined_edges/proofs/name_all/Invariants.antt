@@ -1,7 +1,7 @@
 -- `name_all`: what is left of the list, named from here, is the whole of it named from the start. A turn names three edges.
 use mathlib.Core.Path.{◌≡◌}
 use mathlib.Core.List.{List}
-use Prim.Native.Nat.{ℕ, ◌+◌, ◌-◌, ◌*◌, ◌≤◌}
+use Prim.Native.Nat.{ℕ, ◌+◌, ◌*◌, ◌≤◌}
 use lib.ListN.{length}
 use lib.Ieee.{Float}
 use Rattle.walk.specs.Walk.{Visit}

@@ -1,6 +1,6 @@
 -- `firsts`: after y turns the first cells of y rows are set.
 use mathlib.Core.Path.{◌≡◌, refl, ◌∙◌, subst}
-use Prim.Native.Nat.{ℕ, ◌*◌, ◌-◌}
+use Prim.Native.Nat.{ℕ, ◌*◌}
 use native.Mathlib.Omega.{arith}
 use lib.ListN.{length, length-set, get_or-replicate}
 use Rattle.layer_tally.proofs.MaskBits.{FirstsMade, firsts-turn, firsts-all}

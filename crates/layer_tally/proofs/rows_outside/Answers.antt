@@ -1,7 +1,5 @@
 -- `rows_outside`: the rows before y are outside throughout.
-use Prim.Native.Nat.{◌-◌}
 use native.Mathlib.Omega.{arith}
-use borrow.Author.Tests.{not-false}
 use Rattle.layer_tally.proofs.OutsideStart.{rows-turn}
 use Rattle.layer_tally.proofs.rows_outside.Goals as goal
 

@@ -1,7 +1,7 @@
 -- `row_edges`: at place 3 * i + j the edges so far are the row's first ones; a negative entry ends them, and so does the fifteenth.
 use mathlib.Core.Bool.{true, false}
 use mathlib.Core.Path.{◌≡◌, ◌∙◌, subst}
-use Prim.Native.Nat.{◌+◌, ◌-◌, ◌*◌, ◌≤◌, ◌<◌}
+use Prim.Native.Nat.{◌+◌, ◌*◌, ◌≤◌, ◌<◌}
 use native.Mathlib.Numerals.{add-one}
 use native.Mathlib.Omega.{arith}
 use lib.IntN.{ℤ, pos}
@@ -12,7 +12,6 @@ use mir.Syntax.{w8}
 use mir.Val.{to_z, of_z}
 use mir.ValLaws.{to_z-of_z}
 use borrow.Author.Rules.{rules}
-use Rattle.marching_cubes_tables.specs.Tables.{row}
 use Rattle.marching_cubes_tables.specs.Rule.{row_edges}
 use Rattle.marching_cubes_tables.proofs.Rule.{row-rule}
 use Rattle.marching_cubes_impl.proofs.Row.{padded-set, row_edges-end, row_edges-next}

@@ -1,6 +1,6 @@
 -- `sign_byte`: after i turns the byte is the sign byte of the first i values.
 use mathlib.Core.Path.{◌≡◌}
-use Prim.Native.Nat.{◌-◌, ◌≤◌}
+use Prim.Native.Nat.{◌≤◌}
 use lib.ListN.{take}
 use Rattle.marching_cubes_impl.specs.Signs.{sign_byte}
 use Rattle.marching_cubes_impl.proofs.sign_byte.Given as goal

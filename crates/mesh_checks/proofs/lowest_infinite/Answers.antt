@@ -1,9 +1,8 @@
 -- `lowest_infinite`: the coordinates before i are finite, so the answer is i more than that of the rest.
 use mathlib.Core.Path.{◌≡◌, sym, ap, ◌∙◌}
-use Prim.Native.Nat.{◌-◌, ◌≤◌, ◌<◌}
+use Prim.Native.Nat.{◌≤◌, ◌<◌}
 use native.Mathlib.Omega.{arith}
 use lib.ListN.{length, get_or}
-use borrow.Author.Tests.{not-true, not-false}
 use Rattle.little_endian.specs.Words.{words_from}
 use Rattle.little_endian.proofs.Runs.{words_from-length, words_from-at}
 use Rattle.mesh_record.specs.Mesh.{finite}

@@ -1,6 +1,5 @@
 -- `lowest_beyond`: the indices before i are below the limit, so the answer is i more than that of the rest.
 use mathlib.Core.Path.{sym, ◌∙◌}
-use Prim.Native.Nat.{◌-◌}
 use native.Mathlib.Omega.{arith}
 use lib.ListN.{get_or}
 use borrow.Author.Tests.{lt-ltb, le-ltb}

@@ -1,11 +1,10 @@
 -- `lowest_infinite`: the coordinates before i are finite, so the answer is i more than that of the rest.
 use mathlib.Core.Path.{sym, ap, ◌∙◌}
 use mathlib.Core.List.{map}
-use Prim.Native.Nat.{◌-◌, ◌≤◌, ◌<◌}
+use Prim.Native.Nat.{◌≤◌, ◌<◌}
 use native.Mathlib.Omega.{arith}
 use lib.ListN.{length}
 use lib.Ieee.{binary32, to_bits}
-use borrow.Author.Tests.{not-true, not-false}
 use Rattle.little_endian.proofs.Runs.{get_or-map-at}
 use Rattle.mesh_record.specs.Mesh.{finite}
 use Rattle.mesh_record.proofs.LowestBad.{lowest_bad-good, lowest_bad-bad, lowest_bad-end}

@@ -4,7 +4,6 @@ use mathlib.Core.Bool.{true}
 use Prim.Native.Nat.{ℕ, ◌≤◌}
 use native.Mathlib.Omega.{arith}
 use lib.Dec.{T}
-use borrow.Author.Tests.{not-true, not-false}
 use Rattle.morton.specs.Key.{good, level_in}
 use Rattle.morton_sums.specs.Interleaved.{X, Y, Z}
 use Rattle.morton_cells.specs.Cell.{center_on}

@@ -3,7 +3,6 @@ use mathlib.Core.Path.{◌≡◌, sym, ◌∙◌, subst}
 use mathlib.Core.Bool.{true}
 use Prim.Native.Nat.{ℕ, ◌≤◌}
 use lib.Dec.{T}
-use borrow.Author.Tests.{not-true, not-false}
 use Rattle.morton.specs.Key.{good}
 use Rattle.morton.proofs.TopBit.{level_in-le}
 use Rattle.morton_cells.proofs.half_size.Goals as goal

@@ -1,7 +1,7 @@
 -- `clear`: after i turns the first i words are zero and the rest is as it was.
 use mathlib.Core.Path.{◌≡◌, ap, ◌∙◌}
 use mathlib.Core.List.{List}
-use Prim.Native.Nat.{ℕ, ◌-◌}
+use Prim.Native.Nat.{ℕ}
 use native.Mathlib.Omega.{arith}
 use lib.ListN.{length, length-set, length-replicate, replicate, set}
 use borrow.Author.Fill.{fill_more}

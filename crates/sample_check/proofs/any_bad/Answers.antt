@@ -1,5 +1,4 @@
 -- `any_bad`: after i turns the flag is set exactly where one of the first i samples is bad.
-use Prim.Native.Nat.{◌-◌}
 use borrow.Author.Rules.{rules}
 use Rattle.sample_check.specs.Samples.{any_bad}
 use Rattle.sample_check.proofs.Samples.{flag-suc, flag-end}

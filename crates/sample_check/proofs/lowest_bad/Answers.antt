@@ -1,8 +1,6 @@
 -- `lowest_bad`: the samples before i are good, so the answer is i more than that of the rest.
 use mathlib.Core.Path.{sym, ◌∙◌}
-use Prim.Native.Nat.{◌-◌}
 use borrow.Author.Rules.{rules}
-use borrow.Author.Tests.{not-true, not-false}
 use Rattle.sample_check.proofs.Samples.{lowest_bad-good, lowest_bad-bad, lowest_bad-end}
 use Rattle.sample_check.proofs.lowest_bad.Goals as goal
 

@@ -1,6 +1,5 @@
 -- `outside`: as long as the or of the words is 0, each of them is.
 use mathlib.Core.Path.{◌≡◌}
-use Prim.Native.Nat.{◌-◌}
 use native.Mathlib.Omega.{arith}
 use borrow.Author.Tests.{eqb-true}
 use Rattle.sign_cells.proofs.OutsideRows.{zero_words-none, zero_words-suc, row-outside}

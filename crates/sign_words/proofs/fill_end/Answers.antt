@@ -1,6 +1,6 @@
 -- `fill_end`: the words from the first that is not whole up to word k are there.
 use mathlib.Core.Path.{sym, ◌∙◌, ap}
-use Prim.Native.Nat.{ℕ, ◌/◌, ◌-◌}
+use Prim.Native.Nat.{ℕ, ◌/◌}
 use native.Mathlib.Omega.{arith}
 use lib.ListN.{length-set}
 use Rattle.sign_words.specs.Words.{word_from}

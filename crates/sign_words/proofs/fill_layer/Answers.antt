@@ -1,5 +1,4 @@
 -- `fill_layer`: after y turns the first y rows are there.
-use Prim.Native.Nat.{◌-◌}
 use native.Mathlib.Omega.{arith}
 use borrow.Author.Rules.{rules}
 use Rattle.sign_words.proofs.RowWords.{rows-suc}

@@ -1,6 +1,6 @@
 -- `fill_whole`: after k turns the first k words of the row are there.
 use mathlib.Core.Path.{refl, sym, ◌∙◌, ap}
-use Prim.Native.Nat.{ℕ, ◌-◌}
+use Prim.Native.Nat.{ℕ}
 use native.Mathlib.Omega.{arith}
 use lib.ListN.{length-set}
 use Rattle.sign_words.specs.Words.{word_from}

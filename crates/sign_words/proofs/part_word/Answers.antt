@@ -1,6 +1,5 @@
 -- `part_word`: as `whole_word`, up to the count.
 use mathlib.Core.Path.{◌≡◌, ap, ◌∙◌}
-use Prim.Native.Nat.{◌-◌}
 use native.Mathlib.Omega.{arith}
 use borrow.Author.Rules.{rules}
 use Rattle.sign_words.specs.Words.{word_of, sign_word}

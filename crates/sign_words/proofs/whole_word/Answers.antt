@@ -1,6 +1,6 @@
 -- `whole_word`: after i turns the first i bits are the signs of their samples, and the others are still set.
 use mathlib.Core.Path.{◌≡◌, ap, ◌∙◌}
-use Prim.Native.Nat.{ℕ, ◌-◌}
+use Prim.Native.Nat.{ℕ}
 use native.Mathlib.Omega.{arith}
 use borrow.Author.Rules.{rules}
 use Rattle.sign_words.specs.Words.{word_of}

@@ -1,6 +1,6 @@
 -- `copy_words`: after i turns the front of the buffer has the first i words, and the rest is as it was.
 use mathlib.Core.Path.{◌≡◌, refl, sym, ◌∙◌}
-use Prim.Native.Nat.{◌-◌, ◌<◌}
+use Prim.Native.Nat.{◌<◌}
 use native.Mathlib.Omega.{arith}
 use lib.ListN.{length}
 use Rattle.little_endian.specs.Words.{words_from}

@@ -1,6 +1,5 @@
 -- `put_words`: after i turns the bytes of the first i words are put.
 use mathlib.Core.Path.{refl, ◌∙◌}
-use Prim.Native.Nat.{◌-◌}
 use Rattle.words_write.proofs.Turns.{put_to-end, put_next}
 use borrow.Author.Rules.{rules}
 use Rattle.words_write.proofs.put_words.Goals as goal

@@ -1,7 +1,6 @@
 -- `edge::crossing_on`: the tests in the order of the definition.
-use mathlib.Core.Bool.{true, false}
+use mathlib.Core.Bool.{true}
 use mathlib.Core.Path.{◌≡◌, sym, ◌∙◌}
-use borrow.Author.Tests.{not-true, not-false}
 use Rattle.marching_cubes_impl.specs.Sample.{good}
 use Rattle.marching_cubes_impl.proofs.edge.crossing_on.Goals as goal
 
