@@ -3,7 +3,8 @@
 // `main` reads and writes.
 #![tactic(auto)]
 
-ghost use Rattle.std.specs.Prelude.{◌≡◌, ◌++◌, ◌+◌, ◌*◌, ◌/◌, ◌≤◌, length, take};
+ghost use Rattle.std.specs.Prelude.{◌≡◌, ◌++◌, ◌+◌, ◌*◌, ◌/◌, ◌≤◌, length, take, OnOk, IfSome};
+ghost use Rattle.std.specs.Io.KnownBytes.{Appends};
 ghost use Rattle.listing_words.specs.Put.{Put};
 ghost use Rattle.listing_runs.specs.Runs.{lines_of, vertex_line_at, face_line_at};
 ghost use Rattle.listing_text.specs.Lines.{first_line};
@@ -11,6 +12,7 @@ ghost use Rattle.listing.specs.Listing.{grid_text, listing_of};
 
 use listing_runs::{put_faces, put_vertices};
 use listing_text::{put_first, put_refused};
+use std::alloc::Global;
 use std::io;
 use std::io::{Read, Write};
 
@@ -80,11 +82,24 @@ fn list(bytes: &[u8], text: &mut [u8]) -> usize
     list_grid(text, found.size, found.numbering, &samples[..count])
 }
 
-// A record of size 7 has 1,588 bytes; one more shows that a record is longer.
-fn main(rt: HostRuntime) -> io::Result<()> {
-    let mut bytes = Vec::new(rt.alloc());
-    rt.reader().take(1589).read_to_end(&mut bytes)?;
+// The program over any reader and writer: where the bytes to come are known and the writer tells what
+// it holds, it then holds their listing too. A record of size 7 has 1,588 bytes; one more shows that a
+// record is longer.
+fn write_listing<R: Read + Drop, W: Write>(
+    alloc: Global,
+    reader: R,
+    writer: &mut W,
+) -> io::Result<()>
+    ensures { OnOk result (IfSome (R.remaining reader) (λ bytes.
+        Appends (W.contents writer.old) (W.contents writer.new) (listing_of (take 1589 bytes)))) }
+{
+    let mut bytes = Vec::new(alloc);
+    reader.take(1589).read_to_end(&mut bytes)?;
     let mut text = [0u8; 191622];
     let end = list(bytes.as_slice(), &mut text);
-    io::writer(&rt).write_all(&text[..end])
+    writer.write_all(&text[..end])
+}
+
+fn main(rt: HostRuntime) -> io::Result<()> {
+    write_listing(rt.alloc(), rt.reader(), &mut io::writer(&rt))
 }
