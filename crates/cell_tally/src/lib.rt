@@ -1,6 +1,9 @@
 // How many triangles and new edges 32 cells have together, by the numbers of set bits and without a look at any
 // single cell. A cell has as many triangles as corners inside, less two for each face that is inside and four
 // where only two opposite corners are outside, and four more where all are inside.
+
+#![tactic(auto)]
+
 ghost use Rattle.std.specs.Prelude.{◌≡◌, ◌+◌, ◌*◌, ◌≤◌};
 ghost use Rattle.corner_signs.specs.Signs.{inside_at, faces_at, whole_at, opposite_at};
 ghost use Rattle.cell_tally.specs.Tally.{in_mask, is_set, of_signs, triangles_in, new_in, set_in};

@@ -1,5 +1,8 @@
 // One cell of the crate numbering, over the index cache in lent working memory: a regular cell at once, any
 // other visit by visit.
+
+#![tactic(auto)]
+
 ghost use Rattle.std.specs.Prelude.{◌≡◌, ◌+◌, ◌^◌, ◌≤◌, ◌<◌};
 ghost use Rattle.walk.specs.Walk.{cell, signs};
 ghost use Rattle.walk_models.specs.Lent.{lent_hooks};

@@ -1,4 +1,7 @@
 // The one-edge answer as it crosses the C boundary: its kind beside the cause, the place and the offset.
+
+#![tactic(auto)]
+
 ghost use Rattle.std.specs.Prelude.{◌≡◌};
 ghost use Rattle.marching_cubes_impl.specs.Edge.{crossing_of};
 ghost use Rattle.edge_answer.specs.Edge.{edge_answer};

@@ -1,5 +1,8 @@
 // The count of either numbering over a grid. Layers and rows are taken as the walk takes them, and `row_count`
 // counts a row; in the joined numbering the layers above the lowest are counted by `layer_tally`.
+
+#![tactic(auto)]
+
 ghost use Rattle.std.specs.Prelude.{◌≡◌, cond, ℕ, ◌+◌, ◌-◌, ◌*◌, ◌≤◌, ◌<◌, eqb, length};
 ghost use Rattle.walk_models.specs.Owned.{cells_of_layer};
 ghost use Rattle.lent_mesh.specs.Grid.{inside_of};

@@ -1,5 +1,8 @@
 // The walk over lent memory, for either numbering: layers and their rows of cells. The two layers of sign words are
 // held in local arrays.
+
+#![tactic(auto)]
+
 ghost use Rattle.std.specs.Prelude.{◌≡◌, ℕ, ◌+◌, ◌-◌, ◌*◌, ◌≤◌, ◌<◌, cond, eqb, length, get_or};
 ghost use Rattle.walk.specs.Walk.{visits};
 ghost use Rattle.walk_models.specs.Owned.{cells_of_layer};

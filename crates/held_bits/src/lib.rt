@@ -1,6 +1,9 @@
 // The crate numbering's count, one cell. For a count it matters only whether an entry of the index cache
 // is 0: for each place of its layers and rows one word keeps a bit for each edge whose entry is not. What
 // a cell makes is what its row names and no word holds, so no visit is made one by one.
+
+#![tactic(auto)]
+
 mod names;
 
 ghost use Rattle.std.specs.Prelude.{◌≡◌, ◌+◌, ◌-◌, ◌*◌, ◌^◌, ◌≤◌, ◌<◌, length, get_or};

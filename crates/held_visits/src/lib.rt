@@ -1,5 +1,8 @@
 // The visits of a cell of the crate numbering, one after the other. `current` holds what `get` finds for the
 // cell's edges beside the numbers that the cell gives.
+
+#![tactic(auto)]
+
 ghost use Rattle.std.specs.Prelude.{◌≡◌, List, ℕ, ◌+◌, ◌^◌, ◌≤◌, ◌<◌};
 ghost use Rattle.packed_tables.specs.Unpacked.{unpacked, Edges};
 ghost use Rattle.lent_mesh.specs.declared.Counts.{Counts};

@@ -1,5 +1,8 @@
 // The index cache of index_cache.rs in lent working memory. What is strange in the Rust is kept: number
 // 0 reads as absent. `cells` is left out, for what it holds is never found.
+
+#![tactic(auto)]
+
 ghost use Rattle.std.specs.Prelude.{◌≡◌, cond, ◌+◌, ◌-◌, ◌*◌, ◌^◌, ◌≤◌, ◌<◌, ltb, length, set};
 ghost use Rattle.walk.specs.Cache.{in_layer, put_column};
 ghost use Rattle.walk_models.specs.CacheMemory.{put_layer, put_row, clear_row};

@@ -1,5 +1,8 @@
 // The new edges of an inner cell, one with x, y and z all above 0: it can own the edges 5, 6 and 10 alone, so each is
 // taken by itself and the compiler knows its ends and its slot. The numbers are those of the list.
+
+#![tactic(auto)]
+
 ghost use Rattle.std.specs.Prelude.{◌≡◌, List, ℕ, ◌+◌, ◌*◌, ◌/◌, ◌^◌, ◌≤◌, ◌<◌, length};
 ghost use Rattle.packed_tables.specs.Unpacked.{marked, upper_marked, inner_marked};
 ghost use Rattle.lent_mesh.specs.Stored.{store_at, in_hand, CellOf, Coordinates};

@@ -1,5 +1,8 @@
 // One cell of the joined walk, in lent memory: its new edges are numbered and their vertices put, then
 // the numbers of its row's edges are written as indices. Both lists come packed, a word for a cell.
+
+#![tactic(auto)]
+
 ghost use Rattle.std.specs.Prelude.{◌≡◌, List, ℕ, ◌+◌, ◌*◌, ◌%◌, ◌^◌, ◌≤◌, ◌<◌, eqb, length, get_or, Float};
 ghost use Rattle.marching_cubes_tables.specs.Rule.{row_edges};
 ghost use Rattle.walk.specs.Walk.{Visit, Inside, bit, signs};

@@ -1,5 +1,8 @@
 // Where the joined numbering keeps the numbers of a cell's edges, and the class of a cell, which says which of its edges
 // it owns.
+
+#![tactic(auto)]
+
 ghost use Rattle.std.specs.Prelude.{◌≡◌, ℕ, ◌≤◌, eqb};
 ghost use Rattle.walk.specs.Walk.{bit};
 ghost use Rattle.joined_slots.specs.OneCell.{Slots, class_of};

@@ -1,5 +1,8 @@
 // The answers about Morton keys as they cross the C boundary: the cause beside the value. A bad key is
 // cause 9.
+
+#![tactic(auto)]
+
 ghost use Rattle.std.specs.Prelude.{◌≡◌};
 ghost use Rattle.morton.specs.Answer.{level_of, parent_of, child_of};
 ghost use Rattle.morton_cells.specs.Cell.{half_size_of, center_of, point_cause};

@@ -1,5 +1,8 @@
 // The count of a layer in the joined numbering, above the lowest, word after word and without a look at any single
 // cell. The loop runs over all words of the rows, so that the compiler takes four of them at a time.
+
+#![tactic(auto)]
+
 ghost use Rattle.std.specs.Prelude.{◌≡◌, ℕ, ◌+◌, ◌-◌, ◌*◌, ◌^◌, ◌≤◌, ◌<◌, ltb, get_or};
 ghost use Rattle.cell_tally.specs.Tally.{is_set};
 ghost use Rattle.joined_slots.specs.OneCell.{count_of};

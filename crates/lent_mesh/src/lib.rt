@@ -1,6 +1,9 @@
 // What every numbering writes with: the vertex on an edge of a cell, worked out from the lent samples,
 // and the stores into the lent buffers. A store past the end of a buffer changes nothing, so that the
 // same walk counts where there is no room.
+
+#![tactic(auto)]
+
 ghost use Rattle.std.specs.Prelude.{◌≡◌, ℕ, ◌+◌, ◌*◌, ◌/◌, ◌%◌, ◌^◌, ◌≤◌, ◌<◌, length, set};
 ghost use Rattle.positions.specs.Position.{sample_at};
 ghost use Rattle.lent_mesh.specs.Grid.{position_at};

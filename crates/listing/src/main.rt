@@ -3,7 +3,7 @@
 // `main` reads and writes.
 #![tactic(auto)]
 
-ghost use Rattle.std.specs.Prelude.{◌≡◌, ◌++◌, ◌+◌, ◌*◌, ◌/◌, ◌≤◌, length, take, OnOk, IfSome};
+ghost use Rattle.std.specs.Prelude.{◌≡◌, ◌++◌, ◌+◌, ◌*◌, ◌/◌, ◌≤◌, length, take, IfOk, OnOk, IfSome};
 ghost use Rattle.std.specs.Io.KnownBytes.{Appends};
 ghost use Rattle.listing_words.specs.Put.{Put};
 ghost use Rattle.listing_runs.specs.Runs.{lines_of, vertex_line_at, face_line_at};
@@ -12,7 +12,6 @@ ghost use Rattle.listing.specs.Listing.{grid_text, listing_of};
 
 use listing_runs::{put_faces, put_vertices};
 use listing_text::{put_first, put_refused};
-use std::alloc::Global;
 use std::io;
 use std::io::{Read, Write};
 
@@ -82,24 +81,37 @@ fn list(bytes: &[u8], text: &mut [u8]) -> usize
     list_grid(text, found.size, found.numbering, &samples[..count])
 }
 
+// Reads until the bytes are full or the input ends, and says how many were read.
+fn read_full<R: Read>(reader: &mut R, bytes: &mut [u8]) -> io::Result<usize>
+    ensures within { IfOk result (λ count. count ≤ length bytes.new) }
+    ensures taken { IfOk result (λ count. IfSome (R.remaining reader.old)
+        (λ there. take count bytes.new ≡ take (length bytes.old) there)) }
+{
+    let mut count = 0;
+    while count < bytes.len() {
+        let more = reader.read(&mut bytes[count..])?;
+        if more == 0 {
+            return Ok(count);
+        }
+        count += more;
+    }
+    Ok(count)
+}
+
 // The program over any reader and writer: where the bytes to come are known and the writer tells what
 // it holds, it then holds their listing too. A record of size 7 has 1,588 bytes; one more shows that a
 // record is longer.
-fn write_listing<R: Read + Drop, W: Write>(
-    alloc: Global,
-    reader: R,
-    writer: &mut W,
-) -> io::Result<()>
-    ensures { OnOk result (IfSome (R.remaining reader) (λ bytes.
-        Appends (W.contents writer.old) (W.contents writer.new) (listing_of (take 1589 bytes)))) }
+fn write_listing<R: Read, W: Write>(reader: &mut R, writer: &mut W) -> io::Result<()>
+    ensures { OnOk result (IfSome (R.remaining reader.old) (λ there.
+        Appends (W.contents writer.old) (W.contents writer.new) (listing_of (take 1589 there)))) }
 {
-    let mut bytes = Vec::new(alloc);
-    reader.take(1589).read_to_end(&mut bytes)?;
+    let mut bytes = [0u8; 1589];
+    let length = read_full(reader, &mut bytes)?;
     let mut text = [0u8; 191622];
-    let end = list(bytes.as_slice(), &mut text);
+    let end = list(&bytes[..length], &mut text);
     writer.write_all(&text[..end])
 }
 
 fn main(rt: HostRuntime) -> io::Result<()> {
-    write_listing(rt.alloc(), rt.reader(), &mut io::writer(&rt))
+    write_listing(&mut rt.reader(), &mut io::writer(&rt))
 }

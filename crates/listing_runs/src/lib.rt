@@ -1,5 +1,8 @@
 // The two runs of lines that a mesh has in document 01's listing, put into lent bytes: a line for each
 // vertex and a line for each triangle.
+
+#![tactic(auto)]
+
 ghost use Rattle.std.specs.Prelude.{◌≡◌, ◌+◌, ◌*◌, ◌≤◌, length};
 ghost use Rattle.listing_words.specs.Put.{Put};
 ghost use Rattle.listing_runs.specs.Runs.{vertex_line, face_line, lines_of, vertex_line_at, face_line_at};

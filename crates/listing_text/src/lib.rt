@@ -1,5 +1,8 @@
 // The lines of document 01's listing that stand alone, put into lent bytes one word after another: a
 // refusal's only line, and the line before a mesh's two runs of lines.
+
+#![tactic(auto)]
+
 ghost use Rattle.std.specs.Prelude.{◌+◌, ◌≤◌, length};
 ghost use Rattle.listing_words.specs.Put.{Put};
 ghost use Rattle.listing_text.specs.Lines.{numbering_words, size_words, count_words, first_line, refused_line};

@@ -1,6 +1,9 @@
 // The words of document 01's listing, put into lent bytes: pieces of text, numbers and the bits of floats. Each
 // function takes the place where its piece begins and answers the place after its end; `Put` says that
 // nothing but the piece was written.
+
+#![tactic(auto)]
+
 ghost use Rattle.std.specs.Prelude.{◌≡◌, ◌+◌, ◌<◌, ◌≤◌, length};
 ghost use Rattle.listing_words.specs.Put.{Put};
 ghost use Rattle.listing_words.specs.Digits.{digits, places_within, number_word, float_word};

@@ -1,5 +1,8 @@
 // Little-endian words in lent bytes, and the bits of floats: what the readers and writers of records
 // share. No function here is public: callers have tested that the bytes are there.
+
+#![tactic(auto)]
+
 ghost use Rattle.std.specs.Prelude.{◌≡◌, ◌+◌, ◌≤◌, length};
 ghost use Rattle.std.proofs.lemmas.List.Edits.{sets};
 ghost use Rattle.std.specs.Float.{binary32};

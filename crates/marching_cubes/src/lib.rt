@@ -1,5 +1,8 @@
 // The extraction (`extract` of marching_cubes.rs) over lent memory: the causes in order, then the two
 // passes. Outputs are counted first, so that a refusal leaves them as they were.
+
+#![tactic(auto)]
+
 ghost use Rattle.std.specs.Prelude.{◌≡◌};
 ghost use Rattle.outcome.specs.Outcome.{Outcome, surface_of, left, filled, outcome};
 ghost use Rattle.passes.specs.Accepted.{Accepted};

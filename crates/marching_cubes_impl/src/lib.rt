@@ -1,5 +1,8 @@
 // One cell (`march_cube` of marching_cubes_impl.rs): the sign byte of its eight corner values, and
 // the edges that the table's row names. Any f32 is taken here; a NaN is outside.
+
+#![tactic(auto)]
+
 pub mod edge;
 pub mod vertex;
 

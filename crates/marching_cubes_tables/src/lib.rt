@@ -1,6 +1,9 @@
 // The three tables of marching_cubes_tables.rs. `TRIANGLE_CONNECTION` is flat: the row of the sign
 // byte s starts at 16 * s. It is made once by the outermost function and lent to those below, since
 // a function that names a constant array lays it out anew at every call.
+
+#![tactic(auto)]
+
 mod triangle_connection;
 
 ghost use Rattle.std.specs.Prelude.{◌≡◌, ◌<◌, get_or, pos};

@@ -1,4 +1,7 @@
 // The refusals of a mesh record, in document 02's order (CR 1). The bytes are only read.
+
+#![tactic(auto)]
+
 ghost use Rattle.std.specs.Prelude.{◌≡◌, ◌+◌, ◌*◌, ◌≤◌, length};
 ghost use Rattle.little_endian.specs.Words.{word_at, words_from};
 ghost use Rattle.mesh_record.specs.Mesh.{finite, below};

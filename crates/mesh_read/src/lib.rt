@@ -1,5 +1,8 @@
 // The reader of mesh records, document 02, CR 1: the refusals, then the room, then the copy. What is
 // lent is written only after every check has passed.
+
+#![tactic(auto)]
+
 ghost use Rattle.std.specs.Prelude.{◌≡◌, ◌+◌, ◌*◌, length};
 ghost use Rattle.little_endian.specs.Words.{word_at};
 ghost use Rattle.mesh_checks.specs.Reading.{mesh_in};

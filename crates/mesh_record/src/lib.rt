@@ -1,4 +1,7 @@
 // The mesh record of document 02, CR 1: the checks that the reader and the writer share.
+
+#![tactic(auto)]
+
 ghost use Rattle.std.specs.Prelude.{◌≡◌};
 ghost use Rattle.mesh_record.specs.Refusals.{opening};
 ghost use Rattle.mesh_record.specs.Mesh.{finite};

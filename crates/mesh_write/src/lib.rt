@@ -1,5 +1,8 @@
 // The writer of the mesh record of document 02, CR 1: the refusals in its order, then the room, then
 // the bytes. Nothing is written before all of these have passed.
+
+#![tactic(auto)]
+
 ghost use Rattle.std.specs.Prelude.{◌≡◌, map, ◌≤◌, length};
 ghost use Rattle.std.specs.Float.{binary32};
 ghost use Rattle.std.specs.Float.Ieee.{to_bits};

@@ -1,5 +1,8 @@
 // Keys of octree cells with interleaved coordinates: `level`, `parent` and `child` of morton.rs, which
 // is ported without primal_vertex and dual_vertex. A bad key, or a bad child, is refused with cause 9.
+
+#![tactic(auto)]
+
 ghost use Rattle.std.specs.Prelude.{◌≡◌, T};
 ghost use Rattle.morton.specs.Key.{good, level_in};
 ghost use Rattle.morton.specs.Answer.{level_of, parent_of, child_of};

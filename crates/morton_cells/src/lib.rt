@@ -1,5 +1,8 @@
 // The half-size and the center of the octree cell of a key with interleaved coordinates: `size` and
 // `center` of morton.rs. A bad key is refused with cause 9.
+
+#![tactic(auto)]
+
 ghost use Rattle.std.specs.Prelude.{◌≡◌, ◌≤◌};
 ghost use Rattle.morton_sums.specs.Interleaved.{thirds};
 ghost use Rattle.morton_cells.specs.Cell.{half_size_of, center_of, half_size_at, center_at};

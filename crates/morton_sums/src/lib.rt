@@ -1,5 +1,8 @@
 // The sum and the difference of words with interleaved coordinates: `Add` and `Sub` of morton.rs. Any
 // word is taken, and each axis wraps in its own bits.
+
+#![tactic(auto)]
+
 ghost use Rattle.std.specs.Prelude.{◌≡◌};
 ghost use Rattle.morton_sums.specs.Interleaved.{sum_of, difference_of};
 

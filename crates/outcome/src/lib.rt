@@ -1,6 +1,8 @@
 // No code: the answer of an extraction and, in specs/Outcome.antt, what the call answers and leaves. The
 // crate `marching_cubes` promises it; what is proved of the definition alone rests on no code.
 
+#![tactic(auto)]
+
 // The common answer. A field that the cause does not use is 0.
 #[repr(C)]
 #[derive(Clone, Copy)]

@@ -1,5 +1,8 @@
 // The rows of the triangle table and the new edges of a cell, packed into words, so that a walk reads
 // one word for a cell. Made once and lent, as every constant table.
+
+#![tactic(auto)]
+
 mod news;
 mod regulars;
 mod rows;

@@ -1,5 +1,8 @@
 // The two passes over a grid that was accepted: count and fill. Both leave the working memory that the
 // size asks for zero.
+
+#![tactic(auto)]
+
 ghost use Rattle.std.specs.Prelude.{◌≡◌, cond, map, ℕ, ◌+◌, ◌*◌, ◌≤◌, ◌<◌, eqb, length, get_or, replicate};
 ghost use Rattle.walk.specs.Walk.{visits};
 ghost use Rattle.lent_mesh.specs.Grid.{inside_of, position_at, floats_of};

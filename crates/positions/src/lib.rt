@@ -1,5 +1,8 @@
 // Where a vertex is put (the float part of `extract` in marching_cubes.rs), for sizes to 512. Whole
 // numbers are u32 here: a usize as f32 would cost a branch. `proofs/Edges.antt` has demand 3.
+
+#![tactic(auto)]
+
 ghost use Rattle.std.specs.Prelude.{◌≡◌, ◌≤◌};
 ghost use Rattle.positions.specs.Position.{step_of, corner_of, point_of, vertex_between};
 

@@ -1,5 +1,8 @@
 // The answer about a sample record as it crosses the C boundary, and as the listing program takes it:
 // the cause and the place beside the size and the numbering.
+
+#![tactic(auto)]
+
 ghost use Rattle.std.specs.Prelude.{◌≡◌};
 ghost use Rattle.sample_record.specs.Record.{record_of};
 ghost use Rattle.record_answer.specs.Record.{record_answer};

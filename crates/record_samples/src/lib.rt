@@ -1,4 +1,7 @@
 // The samples of a record, out of its bytes.
+
+#![tactic(auto)]
+
 ghost use Rattle.std.specs.Prelude.{◌≡◌, min, length};
 ghost use Rattle.record_samples.specs.Samples.{samples_of, copied};
 

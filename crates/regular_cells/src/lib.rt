@@ -1,6 +1,9 @@
 // A regular cell of the crate numbering: one that finds every edge of its row but those that such a cell makes.
 // It makes them at once, by constants and a word of a table, and then names its row; any other cell goes
 // visit by visit.
+
+#![tactic(auto)]
+
 ghost use Rattle.std.specs.Prelude.{◌≡◌, List, ℕ, ◌+◌, ◌*◌, ◌/◌, ◌%◌, ◌^◌, ◌≤◌, ◌<◌, eqb, Float};
 ghost use Rattle.walk.specs.Walk.{bit};
 ghost use Rattle.packed_tables.specs.Unpacked.{unpacked, Edges};

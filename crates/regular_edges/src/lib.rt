@@ -1,5 +1,8 @@
 // The new edges of a regular cell of the crate numbering. A word of a table says which of them the cell's row
 // names and gives each its rank, so that they are made in the order of the edges, each by constants.
+
+#![tactic(auto)]
+
 ghost use Rattle.std.specs.Prelude.{◌≡◌, List, ℕ, ◌+◌, ◌^◌, ◌<◌};
 ghost use Rattle.lent_mesh.specs.declared.Counts.{Counts};
 ghost use Rattle.lent_mesh.specs.Stored.{in_hand, CellOf, Coordinates};

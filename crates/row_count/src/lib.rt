@@ -1,6 +1,9 @@
 // The count of a row of cells in either numbering. Cells whose corners are all alike add nothing and are passed over.
 // A cell of the crate numbering is counted by the edges that are held in working memory, one of the joined
 // numbering by its packed word.
+
+#![tactic(auto)]
+
 ghost use Rattle.std.specs.Prelude.{◌≡◌, ◌+◌, ◌-◌, ◌*◌, ◌≤◌, ◌<◌};
 ghost use Rattle.walk.specs.Walk.{Inside, signs, times};
 ghost use Rattle.walk_models.specs.Owned.{cells_of_row};

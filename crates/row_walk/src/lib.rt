@@ -1,5 +1,8 @@
 // The walk along one row of cells over lent memory, for either numbering: words of 32 cells, and the cells of a
 // word that the surface crosses. A cell with all corners alike visits nothing and is passed over.
+
+#![tactic(auto)]
+
 ghost use Rattle.std.specs.Prelude.{◌≡◌, ◌+◌, ◌-◌, ◌*◌, ◌≤◌, ◌<◌};
 ghost use Rattle.walk.specs.Walk.{signs, times};
 ghost use Rattle.walk_models.specs.Owned.{cells_of_row};

@@ -1,5 +1,8 @@
 // The samples that are refused, cause 5 of document 01's table: whether there is one, and where the
 // first stands.
+
+#![tactic(auto)]
+
 ghost use Rattle.std.specs.Prelude.{◌≡◌};
 ghost use Rattle.sample_check.specs.Samples.{any_bad, lowest_bad};
 

@@ -1,6 +1,9 @@
 // The sample record of document 01, "Record and listing": five little-endian u32, then the samples.
 // The bytes are only read. A size is tested against the limit before any product is made of it, so
 // that no bytes make one overflow.
+
+#![tactic(auto)]
+
 ghost use Rattle.std.specs.Prelude.{◌≡◌, ◌<◌};
 ghost use Rattle.sample_record.specs.Record.{sample_count, record_of};
 

@@ -1,5 +1,8 @@
 // What the sign words of four rows say of the 32 cells between them: which the surface crosses, and the
 // sign byte of each. So a walk looks only at the cells that the surface crosses.
+
+#![tactic(auto)]
+
 ghost use Rattle.std.specs.Prelude.{◌≡◌, ◌+◌, ◌^◌, ◌%◌, ◌≤◌, ◌<◌, get_or};
 ghost use Rattle.sign_cells.specs.Cells.{LongWordFrom, QuadFrom, cells_in, ActiveFrom, CaseFrom, OutsideFrom};
 

@@ -1,5 +1,8 @@
 // Signs by words: a bit for each sample of a layer, 32 to a word and four words to a row. Samples are
 // read here once for each layer. Sizes are 2 to 128.
+
+#![tactic(auto)]
+
 ghost use Rattle.std.specs.Prelude.{◌≡◌, ◌+◌, ◌*◌, ◌/◌, ◌≤◌, ◌<◌, length};
 ghost use Rattle.marching_cubes_impl.specs.Sample.{inside};
 ghost use Rattle.sign_words.specs.Words.{word_of, kept_bit, sign_word, word_from, LayerWords, WordsFrom, RowFilled};

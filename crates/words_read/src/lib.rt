@@ -1,5 +1,8 @@
 // Runs of little-endian words out of lent bytes, as words or as floats. Callers have tested that the
 // bytes and the room are there.
+
+#![tactic(auto)]
+
 ghost use Rattle.std.specs.Prelude.{◌≡◌, map, ◌+◌, ◌*◌, ◌≤◌, length};
 ghost use Rattle.std.specs.Float.{binary32};
 ghost use Rattle.std.specs.Float.Ieee.{of_bits};

@@ -1,5 +1,8 @@
 // Runs of little-endian words into lent bytes, from words or from floats. Callers have tested that the
 // bytes are there.
+
+#![tactic(auto)]
+
 ghost use Rattle.std.specs.Prelude.{◌≡◌, map, ◌+◌, ◌*◌, ◌≤◌, length};
 ghost use Rattle.std.proofs.lemmas.List.Edits.{sets};
 ghost use Rattle.std.specs.Float.{binary32};

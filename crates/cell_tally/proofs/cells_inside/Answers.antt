@@ -8,7 +8,7 @@ use Rattle.cell_tally.proofs.Tallies.{comes-set}
 use Rattle.cell_tally.proofs.cells_inside.Goals as goal
 
 pub returns : goal.returns
-returns c = 
+returns c =
     let k = c.args.c in
     let s1 = c.set_in.ensures in (
       (comes-set (bit_and (bit_and (bit_and (bit_and (bit_and (bit_and (bit_and k.c0 k.c1) k.c2) k.c3) k.c4) k.c5) k.c6) k.c7)

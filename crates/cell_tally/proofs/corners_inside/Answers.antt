@@ -6,7 +6,7 @@ use Rattle.cell_tally.proofs.Tallies.{comes-plus, comes-set}
 use Rattle.cell_tally.proofs.corners_inside.Goals as goal
 
 pub returns : goal.returns
-returns c = 
+returns c =
     let s1 = c.set_in.ensures in
     let s2 = c.set_in-2.ensures in
     let s3 = c.set_in-3.ensures in

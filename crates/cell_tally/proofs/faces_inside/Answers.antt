@@ -39,7 +39,7 @@ pub overflow_add-x : goal.overflow_add-x
 overflow_add-x c = omega (arith, c.set_in-5.ensures.1, c.set_in-6.ensures.1)
 
 pub overflow_add-result : goal.overflow_add-result
-overflow_add-result c = 
+overflow_add-result c =
     let s1 = c.set_in.ensures.1 in
     let s2 = c.set_in-2.ensures.1 in
     let s3 = c.set_in-3.ensures.1 in
@@ -47,7 +47,7 @@ overflow_add-result c =
     omega (arith, s1, s2, s3, s4)
 
 pub overflow_add-result-2 : goal.overflow_add-result-2
-overflow_add-result-2 c = 
+overflow_add-result-2 c =
     let s1 = c.set_in.ensures.1 in
     let s2 = c.set_in-2.ensures.1 in
     let s3 = c.set_in-3.ensures.1 in
@@ -57,7 +57,7 @@ overflow_add-result-2 c =
     omega (arith, s1, s2, s3, s4, s5, s6)
 
 pub returns : goal.returns
-returns c = 
+returns c =
     let args = c.args in (
       faces args.c args.mask c.set_in.result c.set_in-2.result c.set_in-3.result c.set_in-4.result c.set_in-5.result c.set_in-6.result c.set_in.ensures.0 c.set_in-2.ensures.0 c.set_in-3.ensures.0 c.set_in-4.ensures.0 c.set_in-5.ensures.0 c.set_in-6.ensures.0,
       omega (arith, c.set_in.ensures.1, c.set_in-2.ensures.1, c.set_in-3.ensures.1, c.set_in-4.ensures.1, c.set_in-5.ensures.1, c.set_in-6.ensures.1),

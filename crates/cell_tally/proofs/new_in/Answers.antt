@@ -54,7 +54,7 @@ pub overflow_add-upper : goal.overflow_add-upper
 overflow_add-upper c = omega (arith, c.set_in-6.ensures.1, c.set_in-7.ensures.1)
 
 pub overflow_add-result : goal.overflow_add-result
-overflow_add-result c = 
+overflow_add-result c =
     let s1 = c.set_in.ensures.1 in
     let s2 = c.set_in-2.ensures.1 in
     let s3 = c.set_in-3.ensures.1 in
@@ -63,7 +63,7 @@ overflow_add-result c =
     omega (arith, s1, s2, s3, s4, s5)
 
 pub overflow_add-result-2 : goal.overflow_add-result-2
-overflow_add-result-2 c = 
+overflow_add-result-2 c =
     let s1 = c.set_in.ensures.1 in
     let s2 = c.set_in-2.ensures.1 in
     let s3 = c.set_in-3.ensures.1 in
@@ -74,7 +74,7 @@ overflow_add-result-2 c =
     omega (arith, s1, s2, s3, s4, s5, s6, s7)
 
 pub overflow_add-result-3 : goal.overflow_add-result-3
-overflow_add-result-3 c = 
+overflow_add-result-3 c =
     let s1 = c.set_in.ensures.1 in
     let s2 = c.set_in-2.ensures.1 in
     let s3 = c.set_in-3.ensures.1 in
@@ -86,7 +86,7 @@ overflow_add-result-3 c =
     omega (arith, s1, s2, s3, s4, s5, s6, s7, s8)
 
 pub returns : goal.returns
-returns c = 
+returns c =
     let args = c.args in (
       new-edges args.c args.mask args.first args.top c.set_in.result c.set_in-2.result c.set_in-3.result c.set_in-4.result c.set_in-5.result c.set_in-6.result c.set_in-7.result c.set_in-8.result
           c.set_in.ensures.0 c.set_in-2.ensures.0 c.set_in-3.ensures.0 c.set_in-4.ensures.0 c.set_in-5.ensures.0 c.set_in-6.ensures.0 c.set_in-7.ensures.0 c.set_in-8.ensures.0,

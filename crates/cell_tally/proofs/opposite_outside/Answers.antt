@@ -9,7 +9,7 @@ use lib.Bits.{bit_and, bit_xor}
 use Rattle.cell_tally.proofs.opposite_outside.Goals as goal
 
 pub returns : goal.returns
-returns c = 
+returns c =
     let k = c.args.c in
     let s1 = c.set_in.ensures in
     let s2 = c.set_in-2.ensures in (

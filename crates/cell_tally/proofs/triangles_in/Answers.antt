@@ -4,13 +4,13 @@ use Rattle.cell_tally.proofs.Tallies.{triangles-balance, triangles-most}
 use Rattle.cell_tally.proofs.triangles_in.Goals as goal
 
 pub overflow_sub-result : goal.overflow_sub-result
-overflow_sub-result c = 
+overflow_sub-result c =
     let args = c.args in
     let balance = triangles-balance args.c args.mask in
     omega (arith, balance, c.corners_inside.ensures.0, c.cells_inside.ensures.0, c.faces_inside.ensures.0, c.opposite_outside.ensures.0)
 
 pub returns : goal.returns
-returns c = 
+returns c =
     let args = c.args in
     let balance = triangles-balance args.c args.mask in
     let corners = c.corners_inside.ensures.0 in

@@ -26,7 +26,7 @@ bounds-regulars-case c = case-lt _ _ _ _ c.args.case c.requires.rows_value.3
 
 -- a regular cell
 pub regular_visits-requires : goal.regular_visits-requires
-regular_visits-requires c = 
+regular_visits-requires c =
     let given = c.requires.rows_value in
     let made = ltb 0 c.args.counts.made in
     let passed = c.is_regular.result in
@@ -35,11 +35,11 @@ regular_visits-requires c =
       cell_of = c.requires.cell_of;
       cache_room = c.requires.cache_room;
       coordinates = (
-            given.2,
-            regular-of c.args.case _ _ c.args.n c.args.x c.args.y c.args.layer c.args.row c.args.work.now _
-                c.args.rows.now c.args.regulars.now (case-lt _ _ _ _ c.args.case given.3) given.0 given.1 refl refl
-                c.found-current.ensures regular,
-          );
+        given.2,
+        regular-of c.args.case _ _ c.args.n c.args.x c.args.y c.args.layer c.args.row c.args.work.now _
+            c.args.rows.now c.args.regulars.now (case-lt _ _ _ _ c.args.case given.3) given.0 given.1 refl refl
+            c.found-current.ensures regular,
+      );
       made_nonzero = (ltb-true 0 c.args.counts.made (and_left made passed c.if-counts-is_regular.true), omega arith, omega arith);
     }
 
@@ -48,7 +48,7 @@ pub overflow_mul-word : goal.overflow_mul-word
 overflow_mul-word c = omega (arith, row_count _ _ _ _ c.args.case c.requires.rows_value.3 c.args.rows.now c.requires.rows_value.0)
 
 pub visit_all-requires : goal.visit_all-requires
-visit_all-requires c = 
+visit_all-requires c =
     let given = c.requires.rows_value in
     record {
       cell_of = c.requires.cell_of;
@@ -76,7 +76,7 @@ pub shape_of-indices : goal.shape_of-indices
 shape_of-indices c = c.indices-2-1.given
 
 pub returns-then-counts-is_regular : goal.returns-then-counts-is_regular
-returns-then-counts-is_regular c = 
+returns-then-counts-is_regular c =
     let args = c.args in
     let given = c.requires.rows_value in
     let room = c.requires.cache_room in
@@ -92,7 +92,7 @@ returns-then-counts-is_regular c =
     }
 
 pub returns : goal.returns
-returns c = 
+returns c =
     let args = c.args in
     let given = c.requires.rows_value in
     let room = c.requires.cache_room in

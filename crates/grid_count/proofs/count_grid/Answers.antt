@@ -17,7 +17,7 @@ use Rattle.grid_count.proofs.Spans.{span_none}
 use Rattle.grid_count.proofs.count_grid.Goals as goal
 
 pub fill_layer-requires : goal.fill_layer-requires
-fill_layer-requires c = 
+fill_layer-requires c =
     let pre = c.requires in
     (pre.0, pre.1, planes-le c.args.n 1 _ (omega (arith, pre.0)) pre.2)
 
@@ -29,12 +29,12 @@ pub overflow_add-z : goal.overflow_add-z
 overflow_add-z c = omega (arith, c.loop-z-test.true, c.requires.1)
 
 pub fill_layer-requires-in-loop-z : goal.fill_layer-requires-in-loop-z
-fill_layer-requires-in-loop-z c = 
+fill_layer-requires-in-loop-z c =
     let pre = c.requires in
     (pre.0, pre.1, planes-le c.args.n _ _ (omega (arith, c.loop-z-test.true)) pre.2)
 
 pub count_layer-next-requires : goal.count_layer-next-requires
-count_layer-next-requires c = 
+count_layer-next-requires c =
     let pre = c.requires in
     let most = pre.1 in
     let room = pre.3 in
@@ -55,13 +55,13 @@ pub overflow_sub-row : goal.overflow_sub-row
 overflow_sub-row c = omega (arith, c.requires.0)
 
 pub overflow_add-row : goal.overflow_add-row
-overflow_add-row c = 
+overflow_add-row c =
     let most = c.requires.1 in
     let row = c.loop-z.invariant.2 in
     omega (arith, most, row)
 
 pub end_layer-requires : goal.end_layer-requires
-end_layer-requires c = 
+end_layer-requires c =
     let pre = c.requires in
     let room = pre.3 in
     let same = c.loop-z.invariant.4 in
@@ -74,7 +74,7 @@ pub loop-z-smaller : goal.loop-z-smaller
 loop-z-smaller c = omega (arith, c.loop-z-test.true)
 
 pub loop-z-preserved : goal.loop-z-preserved
-loop-z-preserved c = 
+loop-z-preserved c =
     let at = c.loop-z.invariant in
     let args = c.args in
     let here = held c.loop-z.work c.loop-z.reached in
@@ -91,7 +91,7 @@ loop-z-preserved c =
 
 pub returns : goal.returns
 unfolding count_steps
-returns c = 
+returns c =
     let most = c.requires.1 in
     let at = c.loop-z.invariant.0 in
     let grown = at.grown in

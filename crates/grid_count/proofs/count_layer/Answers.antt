@@ -5,7 +5,7 @@ use Rattle.grid_count.proofs.JoinedLayer.{joined-layer}
 use Rattle.grid_count.proofs.count_layer.Goals as goal
 
 pub returns-then-z-gt0 : goal.returns-then-z-gt0
-returns-then-z-gt0 c = 
+returns-then-z-gt0 c =
     let args = c.args in
     let words = c.requires.layer_words in
     let counted = c.tally_layer.ensures.layer_counted args.samples.now args.z words.0 words.1 (search rules) in

@@ -17,7 +17,7 @@ pub overflow_sub-n : goal.overflow_sub-n
 overflow_sub-n c = omega (arith, c.requires.le_n.0)
 
 pub count_row-reached-requires : goal.count_row-reached-requires
-count_row-reached-requires c = 
+count_row-reached-requires c =
     let most = c.requires.le_n.1 in
     let at = c.loop-y.invariant.0 in
     let grown = at.grown in
@@ -41,7 +41,7 @@ pub loop-y-smaller : goal.loop-y-smaller
 loop-y-smaller c = omega (arith, c.loop-y-test.true)
 
 pub loop-y-preserved : goal.loop-y-preserved
-loop-y-preserved c = 
+loop-y-preserved c =
     let at = c.loop-y.invariant in
     let args = c.args in
     let parity = parity-next (args.z * (args.n - 1) + c.loop-y.y) c.loop-y.row at.2 in (
@@ -53,7 +53,7 @@ loop-y-preserved c =
 
 pub returns : goal.returns
 unfolding cells_of_layer
-returns c = 
+returns c =
     let most = c.requires.le_n.1 in
     let at = c.loop-y.invariant.0 in
     let grown = at.grown in

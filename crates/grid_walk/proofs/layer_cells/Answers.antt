@@ -20,7 +20,7 @@ pub overflow_sub-n : goal.overflow_sub-n
 overflow_sub-n c = let least = c.requires.layer_of.0.least in omega arith
 
 pub row_cells-reached-requires : goal.row_cells-reached-requires
-row_cells-reached-requires c = 
+row_cells-reached-requires c =
     let layer = c.requires.layer_of.0 in
     let most = layer.most in
     let at = c.loop-y.invariant.0 in
@@ -36,12 +36,12 @@ row_cells-reached-requires c =
     }
 
 pub overflow_sub-row : goal.overflow_sub-row
-overflow_sub-row c = 
+overflow_sub-row c =
     let row = c.loop-y.invariant.2 in
     omega arith
 
 pub overflow_add-y : goal.overflow_add-y
-overflow_add-y c = 
+overflow_add-y c =
     let most = c.requires.layer_of.0.most in
     omega arith
 
@@ -49,7 +49,7 @@ pub loop-y-smaller : goal.loop-y-smaller
 loop-y-smaller c = omega arith
 
 pub loop-y-preserved : goal.loop-y-preserved
-loop-y-preserved c = 
+loop-y-preserved c =
     let at = c.loop-y.invariant in
     let args = c.args in
     let here = in_hand c.loop-y.work c.loop-y.vertices c.loop-y.indices c.loop-y.reached in
@@ -64,7 +64,7 @@ loop-y-preserved c =
 
 pub returns : goal.returns
 unfolding cells_of_layer
-returns c = 
+returns c =
     let most = c.requires.layer_of.0.most in
     let at = c.loop-y.invariant.0 in
     let grown = at.grown in

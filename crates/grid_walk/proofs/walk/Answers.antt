@@ -17,7 +17,7 @@ pub coordinates-coordinates-requires : goal.coordinates-coordinates-requires
 coordinates-coordinates-requires c = let pre = c.requires.le_n in (pre.0, pre.1)
 
 pub fill_layer-requires : goal.fill_layer-requires
-fill_layer-requires c = 
+fill_layer-requires c =
     let ordered = c.requires.grows_within.0.ordered in
     let most = c.requires.grows_within.0.most in
     (c.requires.le_n.0, c.requires.le_n.1, planes-le c.args.n _ _ (omega (arith, ordered, most)) c.requires.le_n.2)
@@ -26,37 +26,36 @@ pub overflow_sub-row : goal.overflow_sub-row
 overflow_sub-row c = omega (arith, c.requires.le_n.0)
 
 pub overflow_mul-row : goal.overflow_mul-row
-overflow_mul-row c = 
+overflow_mul-row c =
     let ordered = c.requires.grows_within.0.ordered in
     let last = c.requires.grows_within.0.most in
     let within : c.args.span.first ≤ c.args.n = omega (arith, ordered, last) in
     omega (arith, swaps-le c.args.n c.args.span.first c.requires.le_n.1 within)
 
 pub loop-z-init : goal.loop-z-init
-loop-z-init c = 
-    (
-      reached-begun _ _ _ _ c.requires.grows_within.0 _ _ _ c.requires.grows_within.1,
-      c.requires.grows_within.0.ordered,
-      ap (λ (k : ℕ). k % 2) (sym (add-zero _)),
-      c.fill_layer.ensures,
-      refl,
-      refl,
-      refl,
-    )
+loop-z-init c = (
+  reached-begun _ _ _ _ c.requires.grows_within.0 _ _ _ c.requires.grows_within.1,
+  c.requires.grows_within.0.ordered,
+  ap (λ (k : ℕ). k % 2) (sym (add-zero _)),
+  c.fill_layer.ensures,
+  refl,
+  refl,
+  refl,
+)
 
 pub overflow_add-z : goal.overflow_add-z
-overflow_add-z c = 
+overflow_add-z c =
     let most = c.requires.le_n.1 in
     let last = c.requires.grows_within.0.most in
     omega (arith, most, last, c.loop-z-test.true)
 
 pub fill_layer-requires-in-loop-z : goal.fill_layer-requires-in-loop-z
-fill_layer-requires-in-loop-z c = 
+fill_layer-requires-in-loop-z c =
     let most = c.requires.grows_within.0.most in
     (c.requires.le_n.0, c.requires.le_n.1, planes-le c.args.n _ _ (omega (arith, most, c.loop-z-test.true)) c.requires.le_n.2)
 
 pub layer_cells-reached-requires : goal.layer_cells-reached-requires
-layer_cells-reached-requires c = 
+layer_cells-reached-requires c =
     let args = c.args in
     let most = c.requires.le_n.1 in
     let room = c.requires.le_n.3 in
@@ -75,20 +74,20 @@ pub overflow_sub-row-in-loop-z : goal.overflow_sub-row-in-loop-z
 overflow_sub-row-in-loop-z c = omega (arith, c.requires.le_n.0)
 
 pub overflow_add-row : goal.overflow_add-row
-overflow_add-row c = 
+overflow_add-row c =
     let most = c.requires.le_n.1 in
     let row = c.loop-z.invariant.2 in
     omega (arith, most, row)
 
 pub end_layer-requires : goal.end_layer-requires
-end_layer-requires c = 
+end_layer-requires c =
     let pre = c.requires.le_n in
     let room = pre.3 in
     let same = c.loop-z.invariant.4 in
     (pre.1, parity-le _, omega (arith, room, same, c.work-1.given))
 
 pub overflow_add-z-in-loop-z : goal.overflow_add-z-in-loop-z
-overflow_add-z-in-loop-z c = 
+overflow_add-z-in-loop-z c =
     let most = c.requires.le_n.1 in
     let last = c.requires.grows_within.0.most in
     omega (arith, most, last, c.loop-z-test.true)
@@ -97,7 +96,7 @@ pub loop-z-smaller : goal.loop-z-smaller
 loop-z-smaller c = omega (arith, c.loop-z-test.true)
 
 pub loop-z-preserved : goal.loop-z-preserved
-loop-z-preserved c = 
+loop-z-preserved c =
     let at = c.loop-z.invariant in
     let args = c.args in
     let here = in_hand c.loop-z.work c.loop-z.vertices c.loop-z.indices c.loop-z.reached in
@@ -123,7 +122,7 @@ shape_of-indices c = c.loop-z.invariant.6
 
 pub returns : goal.returns
 unfolding walk_steps
-returns c = 
+returns c =
     let most = c.requires.le_n.1 in
     let last = c.requires.grows_within.0.most in
     let at = c.loop-z.invariant.0 in

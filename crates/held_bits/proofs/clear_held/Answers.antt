@@ -16,6 +16,6 @@ pub loop-x-preserved : goal.loop-x-preserved
 loop-x-preserved c = (omega arith, simp length-set c.loop-x.invariant.1, clear_held-suc _ _ _ _ _ _ _ c.row_word.ensures.0 c.loop-x.invariant.2 refl)
 
 pub returns : goal.returns
-returns c = 
+returns c =
     let end : c.loop-x.x ≡ c.args.n = omega arith in
     rw end at c.loop-x.invariant.2

@@ -14,7 +14,7 @@ pub shape_of-indices-then-number-gt0 : goal.shape_of-indices-then-number-gt0
 shape_of-indices-then-number-gt0 c = c.indices-1.given
 
 pub returns-then-number-gt0 : goal.returns-then-number-gt0
-returns-then-number-gt0 c = 
+returns-then-number-gt0 c =
     let args = c.args in
     record {
       result_after = visit-named args.n args.samples.now args.x args.y args.z args.edge args.layer args.row args.work.now args.current.now args.vertices.now
@@ -23,7 +23,7 @@ returns-then-number-gt0 c =
     }
 
 pub make_edge-requires : goal.make_edge-requires
-make_edge-requires c = 
+make_edge-requires c =
     record {
       cell_of = c.requires.cell_of;
       cache_room = c.requires.cache_room;
@@ -46,7 +46,7 @@ pub shape_of-indices : goal.shape_of-indices
 shape_of-indices c = c.indices-2-1.given
 
 pub returns : goal.returns
-returns c = 
+returns c =
     let args = c.args in
     record {
       result_after = visit-made args.n args.samples.now args.x args.y args.z args.edge args.layer args.row args.work.now args.current.now args.vertices.now

@@ -12,7 +12,7 @@ pub loop-left-init : goal.loop-left-init
 loop-left-init c = (c.requires.made_le_written.0, refl, refl, refl, refl, c.requires.coordinates.1, refl)
 
 pub visit-reached-requires : goal.visit-reached-requires
-visit-reached-requires c = 
+visit-reached-requires c =
     let taken = c.loop-left-test.true in
     let inv = c.loop-left.invariant in
     let fits = c.requires.made_le_written.1 in
@@ -30,7 +30,7 @@ pub loop-left-smaller : goal.loop-left-smaller
 loop-left-smaller c = omega (arith, c.loop-left-test.true)
 
 pub loop-left-preserved : goal.loop-left-preserved
-loop-left-preserved c = 
+loop-left-preserved c =
     let taken = c.loop-left-test.true in
     let inv = c.loop-left.invariant in
     let args = c.args in
@@ -58,7 +58,7 @@ pub shape_of-indices : goal.shape_of-indices
 shape_of-indices c = c.loop-left.invariant.4
 
 pub returns : goal.returns
-returns c = 
+returns c =
     let args = c.args in
     let none = c.loop-left-test.false in
     record {

@@ -12,14 +12,13 @@ unfolding clear_row times
 loop-x-init c = (omega arith, refl, refl)
 
 pub loop-x-preserved : goal.loop-x-preserved
-loop-x-preserved c = 
-    (
-      omega arith,
-      omega arith,
-      clear_row-suc _ _ _ _ _ _ _ c.row_place.ensures.0 c.loop-x.invariant.2 c.clear_three.ensures,
-    )
+loop-x-preserved c = (
+  omega arith,
+  omega arith,
+  clear_row-suc _ _ _ _ _ _ _ c.row_place.ensures.0 c.loop-x.invariant.2 c.clear_three.ensures,
+)
 
 pub returns : goal.returns
-returns c = 
+returns c =
     let end : c.loop-x.x ≡ c.args.n = omega arith in
     rw end at c.loop-x.invariant.2

@@ -19,4 +19,4 @@ returns-in-10 c = (sym (ap put_column c.in-10.is), omega arith)
 
 pub returns-in_default : goal.returns-in_default
 unfolding put_column
-returns-in_default c = (simp (ne_eqb _ _ c.in_default.rest.0.0.1, ne_eqb _ _ c.in_default.rest.0.1, ne_eqb _ _ c.in_default.rest.1), omega arith)
+returns-in_default c = (simp (ne_eqb _ _ c.in_default.in_default-own.rest.0.0.1, ne_eqb _ _ c.in_default.in_default-own.rest.0.1, ne_eqb _ _ c.in_default.in_default-own.rest.1), omega arith)

@@ -9,7 +9,7 @@ use Rattle.inner_cells.proofs.RankedEdges.{each_both}
 use Rattle.inner_cells.proofs.make_inner.Goals as goal
 
 pub make_upper-requires : goal.make_upper-requires
-make_upper-requires c = 
+make_upper-requires c =
     record {
       cell_of = c.requires.cell_of;
       coordinates = c.requires.coordinates;
@@ -17,7 +17,7 @@ make_upper-requires c =
     }
 
 pub make_marked-requires : goal.make_marked-requires
-make_marked-requires c = 
+make_marked-requires c =
     let room = subst (λ (k : ℕ). 8 * (c.args.n * c.args.n) ≤ k) (sym c.work-1.given) c.requires.n_in_bounds.0 in
     record {
       cell_of = c.requires.cell_of;
@@ -27,7 +27,7 @@ make_marked-requires c =
     }
 
 pub returns : goal.returns
-returns c = 
+returns c =
     let args = c.args in
     let written = args.counts.written in
     record {

@@ -9,7 +9,7 @@ use Rattle.inner_cells.proofs.RankedEdges.{each_both}
 use Rattle.inner_cells.proofs.make_upper.Goals as goal
 
 pub make_marked-requires : goal.make_marked-requires
-make_marked-requires c = 
+make_marked-requires c =
     record {
       cell_of = c.requires.cell_of;
       coordinates = c.requires.coordinates;
@@ -18,7 +18,7 @@ make_marked-requires c =
     }
 
 pub make_marked-requires-2 : goal.make_marked-requires-2
-make_marked-requires-2 c = 
+make_marked-requires-2 c =
     let room = subst (λ (k : ℕ). 8 * (c.args.n * c.args.n) ≤ k) (sym c.work-1.given) c.requires.n_in_bounds.0 in
     record {
       cell_of = c.requires.cell_of;
@@ -28,7 +28,7 @@ make_marked-requires-2 c =
     }
 
 pub returns : goal.returns
-returns c = 
+returns c =
     let args = c.args in
     let word = args.word in
     λ l written.

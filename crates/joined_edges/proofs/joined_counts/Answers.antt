@@ -10,25 +10,25 @@ use Rattle.joined_edges.proofs.joined_counts.Goals as goal
 pub overflow_cast-result : goal.overflow_cast-result
 overflow_cast-result c =
     let held : (let args = c.args in Words args.class args.case (get_or row_words args.case 0) c.new_word-fresh.result) =
-        words _ _ _ row_words c.args.news.now c.requires.news_value.2 c.requires.news_value.1 refl c.requires.news_value.0 c.new_word-fresh.ensures in
+    words _ _ _ row_words c.args.news.now c.requires.news_value.2 c.requires.news_value.1 refl c.requires.news_value.0 c.new_word-fresh.ensures in
     let w = held in search rules
 
 pub overflow_add-result : goal.overflow_add-result
 overflow_add-result c =
     let held : (let args = c.args in Words args.class args.case (get_or row_words args.case 0) c.new_word-fresh.result) =
-        words _ _ _ row_words c.args.news.now c.requires.news_value.2 c.requires.news_value.1 refl c.requires.news_value.0 c.new_word-fresh.ensures in
+    words _ _ _ row_words c.args.news.now c.requires.news_value.2 c.requires.news_value.1 refl c.requires.news_value.0 c.new_word-fresh.ensures in
     let w = held in search rules
 
 pub overflow_add-result-2 : goal.overflow_add-result-2
 overflow_add-result-2 c =
     let held : (let args = c.args in Words args.class args.case (get_or row_words args.case 0) c.new_word-fresh.result) =
-        words _ _ _ row_words c.args.news.now c.requires.news_value.2 c.requires.news_value.1 refl c.requires.news_value.0 c.new_word-fresh.ensures in
+    words _ _ _ row_words c.args.news.now c.requires.news_value.2 c.requires.news_value.1 refl c.requires.news_value.0 c.new_word-fresh.ensures in
     let w = held in search rules
 
 pub returns : goal.returns
 returns c =
     let held : (let args = c.args in Words args.class args.case (get_or row_words args.case 0) c.new_word-fresh.result) =
-        words _ _ _ row_words c.args.news.now c.requires.news_value.2 c.requires.news_value.1 refl c.requires.news_value.0 c.new_word-fresh.ensures in
+    words _ _ _ row_words c.args.news.now c.requires.news_value.2 c.requires.news_value.1 refl c.requires.news_value.0 c.new_word-fresh.ensures in
     let counts = c.args.counts in
     let w = held in
     let made = ap (λ (k : ℕ). counts.made + k) (sym w.new-count) in

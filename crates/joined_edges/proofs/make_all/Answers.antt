@@ -14,46 +14,46 @@ use Rattle.joined_edges.proofs.make_all.Goals as goal
 pub bounds-slots-edge : goal.bounds-slots-edge
 bounds-slots-edge c =
     let edge-lt : c.loop-left.rest % 16 < 12 =
-        first_edge c.loop-left.left c.loop-left.rest c.loop-left-test.true c.loop-left.invariant.2 in
+    first_edge c.loop-left.left c.loop-left.rest c.loop-left-test.true c.loop-left.invariant.2 in
     edge-lt
 
 pub overflow_add-place : goal.overflow_add-place
 overflow_add-place c =
     let edge-lt : c.loop-left.rest % 16 < 12 =
-        first_edge c.loop-left.left c.loop-left.rest c.loop-left-test.true c.loop-left.invariant.2 in
+    first_edge c.loop-left.left c.loop-left.rest c.loop-left-test.true c.loop-left.invariant.2 in
     let place-lt : (let args = c.args in args.at + get_or args.slots.now (c.loop-left.rest % 16) 0 < length c.loop-left.work) =
-        let args = c.args in
-        let cell = c.requires.cell_of in
-        slot-in-work args.at args.n args.x args.y args.z (c.loop-left.rest % 16) (length args.work.now) (length c.loop-left.work) args.slots.now
-        c.requires.coordinates.1 cell.in-x cell.in-y c.requires.n_in_bounds.0 c.loop-left.invariant.3 edge-lt in
+    let args = c.args in
+    let cell = c.requires.cell_of in
+    slot-in-work args.at args.n args.x args.y args.z (c.loop-left.rest % 16) (length args.work.now) (length c.loop-left.work) args.slots.now
+    c.requires.coordinates.1 cell.in-x cell.in-y c.requires.n_in_bounds.0 c.loop-left.invariant.3 edge-lt in
     let h = place-lt in search rules
 
 pub offset_bounds-work-place : goal.offset_bounds-work-place
 offset_bounds-work-place c =
     let edge-lt : c.loop-left.rest % 16 < 12 =
-        first_edge c.loop-left.left c.loop-left.rest c.loop-left-test.true c.loop-left.invariant.2 in
+    first_edge c.loop-left.left c.loop-left.rest c.loop-left-test.true c.loop-left.invariant.2 in
     let place-lt : (let args = c.args in args.at + get_or args.slots.now (c.loop-left.rest % 16) 0 < length c.loop-left.work) =
-        let args = c.args in
-        let cell = c.requires.cell_of in
-        slot-in-work args.at args.n args.x args.y args.z (c.loop-left.rest % 16) (length args.work.now) (length c.loop-left.work) args.slots.now
-        c.requires.coordinates.1 cell.in-x cell.in-y c.requires.n_in_bounds.0 c.loop-left.invariant.3 edge-lt in
+    let args = c.args in
+    let cell = c.requires.cell_of in
+    slot-in-work args.at args.n args.x args.y args.z (c.loop-left.rest % 16) (length args.work.now) (length c.loop-left.work) args.slots.now
+    c.requires.coordinates.1 cell.in-x cell.in-y c.requires.n_in_bounds.0 c.loop-left.invariant.3 edge-lt in
     let h = place-lt in search rules
 
 pub bounds-work-place : goal.bounds-work-place
 bounds-work-place c =
     let edge-lt : c.loop-left.rest % 16 < 12 =
-        first_edge c.loop-left.left c.loop-left.rest c.loop-left-test.true c.loop-left.invariant.2 in
+    first_edge c.loop-left.left c.loop-left.rest c.loop-left-test.true c.loop-left.invariant.2 in
     let place-lt : (let args = c.args in args.at + get_or args.slots.now (c.loop-left.rest % 16) 0 < length c.loop-left.work) =
-        let args = c.args in
-        let cell = c.requires.cell_of in
-        slot-in-work args.at args.n args.x args.y args.z (c.loop-left.rest % 16) (length args.work.now) (length c.loop-left.work) args.slots.now
-        c.requires.coordinates.1 cell.in-x cell.in-y c.requires.n_in_bounds.0 c.loop-left.invariant.3 edge-lt in
+    let args = c.args in
+    let cell = c.requires.cell_of in
+    slot-in-work args.at args.n args.x args.y args.z (c.loop-left.rest % 16) (length args.work.now) (length c.loop-left.work) args.slots.now
+    c.requires.coordinates.1 cell.in-x cell.in-y c.requires.n_in_bounds.0 c.loop-left.invariant.3 edge-lt in
     omega (arith, place-lt)
 
 pub put_vertex-requires : goal.put_vertex-requires
 put_vertex-requires c =
     let edge-lt : c.loop-left.rest % 16 < 12 =
-        first_edge c.loop-left.left c.loop-left.rest c.loop-left-test.true c.loop-left.invariant.2 in
+    first_edge c.loop-left.left c.loop-left.rest c.loop-left-test.true c.loop-left.invariant.2 in
     record {
       cell_of = c.requires.cell_of;
       edge_bound = (edge-lt, c.requires.coordinates.0);
@@ -69,7 +69,7 @@ pub loop-left-smaller : goal.loop-left-smaller
 loop-left-smaller c = omega (arith, c.loop-left-test.true)
 
 pub loop-left-preserved : goal.loop-left-preserved
-loop-left-preserved c = 
+loop-left-preserved c =
     let args = c.args in
     let put = c.put_vertex.ensures in (
       omega (arith, c.loop-left-test.true, c.loop-left.invariant.0),
@@ -90,7 +90,7 @@ pub shape_of-vertices : goal.shape_of-vertices
 shape_of-vertices c = c.loop-left.invariant.4
 
 pub returns : goal.returns
-returns c = 
+returns c =
     let args = c.args in
     record {
       by_index = λ l.

@@ -13,8 +13,8 @@ use Rattle.joined_edges.proofs.make_all.Given as goal
 abbrev pub invariant-loop-left : goal.invariant-loop-left
 invariant-loop-left l =
     (l.made + l.left ≡ l.initial.made + l.count) × (l.left ≤ 15) × Edges (unpacked l.left l.rest) × (length l.work ≡ length l.initial.work) × (length l.vertices ≡ length l.initial.vertices)
-    × ((l : List ℕ) → each (make_edge (store_at l.n l.samples) l.n l.z l.y l.x) (unpacked l.left l.rest) (hand l.work l.vertices l l.made l.written)
-    ≡ each (make_edge (store_at l.n l.samples) l.n l.z l.y l.x) (unpacked l.count l.list) (hand l.initial.work l.initial.vertices l l.initial.made l.written))
+    × ((indices : List ℕ) → each (make_edge (store_at l.n l.samples) l.n l.z l.y l.x) (unpacked l.left l.rest) (hand l.work l.vertices indices l.made l.written)
+    ≡ each (make_edge (store_at l.n l.samples) l.n l.z l.y l.x) (unpacked l.count l.list) (hand l.initial.work l.initial.vertices indices l.initial.made l.written))
 
 abbrev pub decreases-loop-left : goal.decreases-loop-left
 decreases-loop-left l = l.left

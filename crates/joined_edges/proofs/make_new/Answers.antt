@@ -21,8 +21,8 @@ new_word-word-requires c = let known = c.requires.news_value in (known.1, known.
 pub make_inner-requires : goal.make_inner-requires
 make_inner-requires c =
     let held : (let args = c.args in Words args.class args.case (get_or row_words args.case 0) c.new_word-word.result) =
-        let known = c.requires.news_value in
-        words c.args.class c.args.case c.new_word-word.result row_words c.args.news.now known.2 known.1 refl known.0 c.new_word-word.ensures in
+    let known = c.requires.news_value in
+    words c.args.class c.args.case c.new_word-word.result row_words c.args.news.now known.2 known.1 refl known.0 c.new_word-word.ensures in
     let w = held in
     record {
       cell_of = c.requires.cell_of;
@@ -33,8 +33,8 @@ make_inner-requires c =
 pub make_all-requires : goal.make_all-requires
 make_all-requires c =
     let held : (let args = c.args in Words args.class args.case (get_or row_words args.case 0) c.new_word-word.result) =
-        let known = c.requires.news_value in
-        words c.args.class c.args.case c.new_word-word.result row_words c.args.news.now known.2 known.1 refl known.0 c.new_word-word.ensures in
+    let known = c.requires.news_value in
+    words c.args.class c.args.case c.new_word-word.result row_words c.args.news.now known.2 known.1 refl known.0 c.new_word-word.ensures in
     let w = held in
     record {
       cell_of = c.requires.cell_of;
@@ -53,8 +53,8 @@ shape_of-vertices-then-class-dense c = c.vertices-1.given
 pub returns-then-class-dense : goal.returns-then-class-dense
 returns-then-class-dense c =
     let held : (let args = c.args in Words args.class args.case (get_or row_words args.case 0) c.new_word-word.result) =
-        let known = c.requires.news_value in
-        words c.args.class c.args.case c.new_word-word.result row_words c.args.news.now known.2 known.1 refl known.0 c.new_word-word.ensures in
+    let known = c.requires.news_value in
+    words c.args.class c.args.case c.new_word-word.result row_words c.args.news.now known.2 known.1 refl known.0 c.new_word-word.ensures in
     let args = c.args in
     let cell = c.requires.cell_of in
     let known = c.requires.news_value in
@@ -78,8 +78,8 @@ shape_of-vertices-else-class-dense c = c.vertices-else-class-dense-1.given
 pub returns-else-class-dense : goal.returns-else-class-dense
 returns-else-class-dense c =
     let held : (let args = c.args in Words args.class args.case (get_or row_words args.case 0) c.new_word-word.result) =
-        let known = c.requires.news_value in
-        words c.args.class c.args.case c.new_word-word.result row_words c.args.news.now known.2 known.1 refl known.0 c.new_word-word.ensures in
+    let known = c.requires.news_value in
+    words c.args.class c.args.case c.new_word-word.result row_words c.args.news.now known.2 known.1 refl known.0 c.new_word-word.ensures in
     let args = c.args in
     let w = held in
     let counts = c.make_all.ensures.made_value in

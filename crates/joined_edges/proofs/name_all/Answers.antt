@@ -8,31 +8,26 @@ use Rattle.packed_tables.specs.Unpacked.{unpacked, Edges}
 use Rattle.joined_edges.proofs.PackedSteps.{three-edges, each_none, name-three}
 use Rattle.joined_edges.proofs.name_all.Goals as goal
 
--- and the place of the number of one of them
-place-lt : (c : goal.In-loop-left) (word : ℕ) → word % 16 < 12
-    → (c.args.at + get_or c.args.slots.now (word % 16) 0 < length c.args.work.now)
-place-lt c word h = c.requires.by_index.0 (word % 16) h
-
 pub loop-left-init : goal.loop-left-init
 loop-left-init c = (refl, omega (arith, c.requires.edges.1), c.requires.edges.0, refl, λ n x y z store b places. refl)
 
 pub first_number-a-requires : goal.first_number-a-requires
 first_number-a-requires c =
     let edges : let rest = c.loop-left.rest in (rest % 16 < 12) × (rest / 16 % 16 < 12) × (rest / 16 / 16 % 16 < 12) × Edges (unpacked (3 * (c.loop-left.left - 1)) (rest / 16 / 16 / 16)) =
-        three-edges c.loop-left.left c.loop-left.rest c.loop-left-test.true c.loop-left.invariant.2 in
-    let h = edges.0 in (h, place-lt c _ h)
+    three-edges c.loop-left.left c.loop-left.rest c.loop-left-test.true c.loop-left.invariant.2 in
+    let h = edges.0 in (h, c.requires.by_index.0 _ h)
 
 pub first_number-b-requires : goal.first_number-b-requires
 first_number-b-requires c =
     let edges : let rest = c.loop-left.rest in (rest % 16 < 12) × (rest / 16 % 16 < 12) × (rest / 16 / 16 % 16 < 12) × Edges (unpacked (3 * (c.loop-left.left - 1)) (rest / 16 / 16 / 16)) =
-        three-edges c.loop-left.left c.loop-left.rest c.loop-left-test.true c.loop-left.invariant.2 in
-    let h = edges.1 in (h, place-lt c _ h)
+    three-edges c.loop-left.left c.loop-left.rest c.loop-left-test.true c.loop-left.invariant.2 in
+    let h = edges.1 in (h, c.requires.by_index.0 _ h)
 
 pub first_number-c-requires : goal.first_number-c-requires
 first_number-c-requires c =
     let edges : let rest = c.loop-left.rest in (rest % 16 < 12) × (rest / 16 % 16 < 12) × (rest / 16 / 16 % 16 < 12) × Edges (unpacked (3 * (c.loop-left.left - 1)) (rest / 16 / 16 / 16)) =
-        three-edges c.loop-left.left c.loop-left.rest c.loop-left-test.true c.loop-left.invariant.2 in
-    let h = edges.2 in (h, place-lt c _ h)
+    three-edges c.loop-left.left c.loop-left.rest c.loop-left-test.true c.loop-left.invariant.2 in
+    let h = edges.2 in (h, c.requires.by_index.0 _ h)
 
 pub put_three-requires : goal.put_three-requires
 put_three-requires c = omega (arith, c.loop-left.invariant.0, c.loop-left-test.true, c.requires.edges.1, c.requires.by_index.1)
@@ -49,7 +44,7 @@ loop-left-smaller c = omega (arith, c.loop-left-test.true)
 pub loop-left-preserved : goal.loop-left-preserved
 loop-left-preserved c =
     let edges : let rest = c.loop-left.rest in (rest % 16 < 12) × (rest / 16 % 16 < 12) × (rest / 16 / 16 % 16 < 12) × Edges (unpacked (3 * (c.loop-left.left - 1)) (rest / 16 / 16 / 16)) =
-        three-edges c.loop-left.left c.loop-left.rest c.loop-left-test.true c.loop-left.invariant.2 in
+    three-edges c.loop-left.left c.loop-left.rest c.loop-left-test.true c.loop-left.invariant.2 in
     let args = c.args in
     let put = c.put_three.ensures in (
       omega (arith, c.loop-left-test.true, c.loop-left.invariant.0),
@@ -67,7 +62,7 @@ pub shape_of-indices : goal.shape_of-indices
 shape_of-indices c = c.loop-left.invariant.3
 
 pub returns : goal.returns
-returns c = 
+returns c =
     record {
       result_after = λ n x y z store b places. sym (each_none (name_edge store n z y x) (3 * c.loop-left.left) c.loop-left.rest _ (omega (arith, c.loop-left-test.false))) ∙ c.loop-left.invariant.4 n x y z store b places;
       made_value = (refl, omega (arith, c.loop-left-test.false, c.loop-left.invariant.0));

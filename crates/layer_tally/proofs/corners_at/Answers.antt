@@ -3,7 +3,7 @@ use Rattle.layer_tally.proofs.CornerBits.{corners-from}
 use Rattle.layer_tally.proofs.corners_at.Goals as goal
 
 pub returns : goal.returns
-returns c = 
+returns c =
     let args = c.args in
     corners-from args.low.now args.high.now args.at _ _ _ _
     c.next_word.ensures

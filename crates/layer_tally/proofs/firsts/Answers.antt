@@ -10,14 +10,14 @@ pub loop-y-init : goal.loop-y-init
 loop-y-init c = (omega arith, refl, (λ k h. absurd (omega arith), λ i h l. get_or-replicate 513 i 0 0 h))
 
 pub loop-y-preserved : goal.loop-y-preserved
-loop-y-preserved c = 
+loop-y-preserved c =
     let all = c.loop-y.all in
     let y = c.loop-y.y in
     let len : length all ≡ 513 = c.loop-y.invariant.1 in
     (omega arith, length-set all (4 * y) 1 ∙ len, firsts-turn y all len (omega arith) c.loop-y.invariant.2)
 
 pub returns : goal.returns
-returns c = 
+returns c =
     let all = c.loop-y.all in
     let rows : c.loop-y.y ≡ 128 = omega arith in
     firsts-all all (subst (λ (y : ℕ). FirstsMade y all) rows c.loop-y.invariant.2)

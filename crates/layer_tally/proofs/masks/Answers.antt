@@ -14,7 +14,7 @@ pub mask_of-requires : goal.mask_of-requires
 mask_of-requires c = (omega arith, omega arith, mod-lt c.loop-i.i (omega arith))
 
 pub loop-i-preserved : goal.loop-i-preserved
-loop-i-preserved c = 
+loop-i-preserved c =
     let all = c.loop-i.all in
     let i = c.loop-i.i in
     let new = c.mask_of.result in
@@ -25,4 +25,4 @@ loop-i-preserved c =
     )
 
 pub returns : goal.returns
-returns c j h l = c.loop-i.invariant.2 i j (omega arith) l
+returns c i j h l = c.loop-i.invariant.2 i j (omega arith) l

@@ -5,6 +5,6 @@ use Rattle.layer_tally.proofs.CornerBits.{next-from}
 use Rattle.layer_tally.proofs.next_of.Goals as goal
 
 pub returns : goal.returns
-returns c = 
+returns c =
     let word : c.args.word < 2 ^ 32 = search rules in
     next-from _ _ word

@@ -12,7 +12,7 @@ pub returns-then-not-outside : goal.returns-then-not-outside
 returns-then-not-outside c = (c.loop-y.invariant.1, c.loop-y.invariant.0)
 
 pub loop-y-preserved : goal.loop-y-preserved
-loop-y-preserved c = 
+loop-y-preserved c =
     let args = c.args in (
       omega arith,
       rows-turn args.low.now args.high.now args.n c.loop-y.y _ (omega arith) (omega arith) c.loop-y.invariant.1

@@ -18,7 +18,7 @@ top-after : (i j : ℕ) → 4 ≤ i → is_set 0 j ≡ eqb (i / 4) 0
 top-after i j a = none-set j ∙ sym (ne_eqb (i / 4) 0 (λ e. omega (arith, a, e)))
 
 pub tally_words-begun-requires : goal.tally_words-begun-requires
-tally_words-begun-requires c = 
+tally_words-begun-requires c =
     record {
       le_n = c.requires.le_n;
       from_le_to = (omega arith, omega (arith, c.requires.le_n.0));
@@ -26,7 +26,7 @@ tally_words-begun-requires c =
     }
 
 pub tally_words-requires : goal.tally_words-requires
-tally_words-requires c = 
+tally_words-requires c =
     let begun = c.tally_words-begun.ensures.written_bound in
     record {
       le_n = c.requires.le_n;
@@ -35,7 +35,7 @@ tally_words-requires c =
     }
 
 pub returns-then-first-eq0 : goal.returns-then-first-eq0
-returns-then-first-eq0 c = 
+returns-then-first-eq0 c =
     let args = c.args in
     let least = c.requires.le_n.0 in
     let most = c.requires.le_n.1 in
@@ -50,7 +50,7 @@ returns-then-first-eq0 c =
     }
 
 pub tally_words-requires-2 : goal.tally_words-requires-2
-tally_words-requires-2 c = 
+tally_words-requires-2 c =
     let most = c.requires.le_n.1 in
     let fits = c.requires.made_le_written.1 in
     let rows = c.rows_outside-first.ensures.1 in
@@ -61,7 +61,7 @@ tally_words-requires-2 c =
     }
 
 pub returns : goal.returns
-returns c = 
+returns c =
     let args = c.args in
     let most = c.requires.le_n.1 in
     let few = c.rows_outside-first.ensures.1 in

@@ -11,7 +11,7 @@ use Rattle.layer_tally.proofs.WordSteps.{words-none, words-next}
 use Rattle.layer_tally.proofs.tally_words.Goals as goal
 
 pub loop-i-init : goal.loop-i-init
-loop-i-init c = 
+loop-i-init c =
     let args = c.args in
     let bounds = c.requires.from_le_to in
     (omega arith, bounds.0, words-none args.low.now args.high.now args.n args.from args.top _, omega arith, c.requires.made_le_written.0)
@@ -20,7 +20,7 @@ pub corners_at-corners-requires : goal.corners_at-corners-requires
 corners_at-corners-requires c = omega (arith, c.requires.le_n.1, c.requires.from_le_to.1, c.loop-i-test.true)
 
 pub offset_bounds-masks-i : goal.offset_bounds-masks-i
-offset_bounds-masks-i c = 
+offset_bounds-masks-i c =
     let most = c.requires.le_n.1 in
     let end = c.requires.from_le_to.1 in
     let within = c.loop-i.invariant.1 in
@@ -30,7 +30,7 @@ pub bounds-masks-i : goal.bounds-masks-i
 bounds-masks-i c = omega (arith, c.requires.le_n.1, c.requires.from_le_to.1, c.loop-i.invariant.1)
 
 pub offset_bounds-firsts-i : goal.offset_bounds-firsts-i
-offset_bounds-firsts-i c = 
+offset_bounds-firsts-i c =
     let most = c.requires.le_n.1 in
     let end = c.requires.from_le_to.1 in
     let within = c.loop-i.invariant.1 in
@@ -40,7 +40,7 @@ pub bounds-firsts-i : goal.bounds-firsts-i
 bounds-firsts-i c = omega (arith, c.requires.le_n.1, c.requires.from_le_to.1, c.loop-i.invariant.1)
 
 pub overflow_add-made : goal.overflow_add-made
-overflow_add-made c = 
+overflow_add-made c =
     let fits = c.requires.made_le_written.1 in
     let inv = c.loop-i.invariant in
     let grown = inv.3 in
@@ -52,14 +52,14 @@ pub overflow_mul-written : goal.overflow_mul-written
 overflow_mul-written c = let few = c.triangles_in.ensures.1 in search rules
 
 pub overflow_add-written : goal.overflow_add-written
-overflow_add-written c = 
+overflow_add-written c =
     let fits = c.requires.made_le_written.1 in
     let grown = c.loop-i.invariant.3 in
     let few = c.triangles_in.ensures.1 in
     search rules
 
 pub overflow_add-i : goal.overflow_add-i
-overflow_add-i c = 
+overflow_add-i c =
     let most = c.requires.le_n.1 in
     let end = c.requires.from_le_to.1 in
     let within = c.loop-i.invariant.1 in
@@ -69,7 +69,7 @@ pub loop-i-smaller : goal.loop-i-smaller
 loop-i-smaller c = omega arith
 
 pub loop-i-preserved : goal.loop-i-preserved
-loop-i-preserved c = 
+loop-i-preserved c =
     let args = c.args in
     let inv = c.loop-i.invariant in
     let begun = inv.0 in
@@ -97,7 +97,7 @@ loop-i-preserved c =
     )
 
 pub returns : goal.returns
-returns c = 
+returns c =
     let args = c.args in
     let inv = c.loop-i.invariant in
     let begun = inv.0 in

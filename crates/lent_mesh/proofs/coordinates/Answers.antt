@@ -12,7 +12,7 @@ pub loop-i-init : goal.loop-i-init
 loop-i-init c = (omega arith, c.step-step.ensures, refl, λ k h. absurd (omega arith))
 
 pub loop-i-preserved : goal.loop-i-preserved
-loop-i-preserved c = 
+loop-i-preserved c =
     let all = c.loop-i.all in
     let i = c.loop-i.i in
     let len : length all ≡ 129 = c.loop-i.invariant.2 in
@@ -30,4 +30,4 @@ loop-i-preserved c =
     )
 
 pub returns : goal.returns
-returns c h = c.loop-i.invariant.3 k (omega arith)
+returns c k h = c.loop-i.invariant.3 k (omega arith)

@@ -11,6 +11,6 @@ one_by_one l k m o place a b c p q r =
     r ∙ ap (λ (x : List ℕ). set x (place + 2) c) (q ∙ ap (λ (x : List ℕ). set x (place + 1) b) p)
 
 pub returns-else-at-indices : goal.returns-else-at-indices
-returns-else-at-indices c = 
+returns-else-at-indices c =
     let args = c.args in
     one_by_one args.indices.now _ _ _ args.place args.a args.b args.c c.put_index.ensures c.put_index-else-at-indices.ensures c.put_index-else-at-indices-2.ensures

@@ -18,7 +18,7 @@ pub shape_of-vertices : goal.shape_of-vertices
 shape_of-vertices c = c.vertices-1.given
 
 pub returns-then-at-vertices : goal.returns-then-at-vertices
-returns-then-at-vertices c = 
+returns-then-at-vertices c =
     let args = c.args in
     stored-point args.vertices.now _ args.number c.vertex_on-p.result _ c.if-at-vertices.true c.vertex_on-p.ensures c.store.ensures
 

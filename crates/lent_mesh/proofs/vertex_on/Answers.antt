@@ -96,7 +96,7 @@ pub bounds-coordinates-z1 : goal.bounds-coordinates-z1
 bounds-coordinates-z1 c = let cell = c.requires.cell_of in omega (arith, cell.most, cell.in-z, c.offset-6.ensures.1)
 
 pub sample-a-requires : goal.sample-a-requires
-sample-a-requires c = 
+sample-a-requires c =
     let args = c.args in
     corner-in args.samples.now args.n args.x args.y args.z c.offset.result
     c.offset-2.result c.offset-3.result c.requires.cell_of
@@ -105,14 +105,14 @@ sample-a-requires c =
     c.offset-3.ensures.1
 
 pub sample-b-requires : goal.sample-b-requires
-sample-b-requires c = 
+sample-b-requires c =
     let args = c.args in
     corner-in args.samples.now args.n args.x args.y args.z c.offset-4.result c.offset-5.result c.offset-6.result
     c.requires.cell_of
     c.offset-4.ensures.1 c.offset-5.ensures.1 c.offset-6.ensures.1
 
 pub returns : goal.returns
-returns c = 
+returns c =
     let args = c.args in
     let e = c.requires.edge_bound.0 in
     position_at-known args.n args.x args.y args.z args.edge args.samples.now args.coordinates.now c.requires.cell_of c.requires.edge_bound.1

@@ -6,7 +6,5 @@ use Rattle.listing.proofs.write_listing.Goals as goal
 
 pub returns : goal.returns
 returns g c =
-    on_ok c.write_all.result
-    (listed-appended _ _ _ _ _ _ c.read_to_end.new.buf.items _ c.take.ensures.limit (ap g.R.Read.remaining c.take.ensures.inner) c.new-bytes.ensures.items
-    c.in_ok-read_to_end.ensures.bytes (c.list-end.ensures.text_after ∙ ap listing_of c.as_slice.ensures.value))
+    on_ok c.write_all.result (listed-appended (g.R.Read.remaining c.args.reader.now) _ _ _ _ c.in_ok-length.ensures.taken c.list-end.ensures.text_after)
     c.write_all.ensures.bytes

@@ -28,7 +28,7 @@ pub loop-i-smaller : goal.loop-i-smaller
 loop-i-smaller c = omega (arith, c.loop-i-test.true)
 
 pub loop-i-preserved : goal.loop-i-preserved
-loop-i-preserved c = 
+loop-i-preserved c =
     let inv = c.loop-i.invariant in (
       omega (arith, c.loop-i-test.true),
       c.text-1.given ∙ inv.1,
@@ -40,7 +40,7 @@ pub shape_of-text : goal.shape_of-text
 shape_of-text c = c.loop-i.invariant.1
 
 pub returns : goal.returns
-returns c = 
+returns c =
     let all : c.loop-i.i ≡ c.args.count = omega (arith, c.loop-i.invariant.0, c.loop-i-test.false) in
     record {
       put = (subst (λ (k : ℕ). Put c.args.text.now c.args.at (lines_of k (vertex_line_at c.args.vertices.now)) c.loop-i.text c.loop-i.next) all c.loop-i.invariant.3);

@@ -6,7 +6,7 @@ use borrow.Author.Tests.{eq-eqb, ne_eqb}
 use Rattle.listing_text.proofs.put_numbering.Goals as goal
 
 pub returns-then-numbering-eq0 : goal.returns-then-numbering-eq0
-returns-then-numbering-eq0 c = 
+returns-then-numbering-eq0 c =
     let ended : c.put_bytes.result ≡ c.args.at + 16 = c.put_bytes.ensures.ends in
     record {
       put = rw (eq-eqb c.args.numbering 0 c.if-numbering-eq0.true) c.put_bytes.ensures;
@@ -14,7 +14,7 @@ returns-then-numbering-eq0 c =
     }
 
 pub returns-else-numbering-eq0 : goal.returns-else-numbering-eq0
-returns-else-numbering-eq0 c = 
+returns-else-numbering-eq0 c =
     let ended : c.put_bytes-else-numbering-eq0.result ≡ c.args.at + 17 = c.put_bytes-else-numbering-eq0.ensures.ends in
     record {
       put = rw (ne_eqb c.args.numbering 0 c.if-numbering-eq0.false) c.put_bytes-else-numbering-eq0.ensures;

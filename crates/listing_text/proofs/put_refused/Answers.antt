@@ -6,7 +6,7 @@ use Rattle.listing_words.proofs.Putting.{put_then}
 use Rattle.listing_text.proofs.put_refused.Goals as goal
 
 pub returns : goal.returns
-returns c = 
+returns c =
     let begun : c.put_bytes-first.result ≡ c.args.at + 7 = c.put_bytes-first.ensures.ends in
     let between : c.put_bytes-third.result ≡ c.put_number-second.result + 3 = c.put_bytes-third.ensures.ends in
     let ended : c.put_bytes.result ≡ c.put_number-end.result + 1 = c.put_bytes.ensures.ends in

@@ -6,7 +6,7 @@ use Rattle.listing_words.proofs.Putting.{put_then}
 use Rattle.listing_text.proofs.put_size.Goals as goal
 
 pub returns : goal.returns
-returns c = 
+returns c =
     let begun : c.put_bytes-first.result ≡ c.args.at + 4 = c.put_bytes-first.ensures.ends in
     record {
       put = put_then (put_then c.put_bytes-first.ensures c.put_number-second.ensures.put) c.put_numbering.ensures.put;

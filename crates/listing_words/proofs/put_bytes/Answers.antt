@@ -13,12 +13,12 @@ pub loop-i-init : goal.loop-i-init
 loop-i-init c = (search rules, refl, put-none _ _)
 
 pub loop-i-preserved : goal.loop-i-preserved
-loop-i-preserved c = 
+loop-i-preserved c =
     let piece = c.args.piece.now in
     (search rules, search rules, put-more piece c.args.text.now c.loop-i.text c.args.at c.loop-i.i (search rules) c.loop-i.invariant.2)
 
 pub returns : goal.returns
-returns c = 
+returns c =
     let piece = c.args.piece.now in
     let all : c.loop-i.i ≡ length piece = search rules in
     subst (λ (p : List ℕ). Put c.args.text.now c.args.at p c.loop-i.text (c.args.at + c.loop-i.i))

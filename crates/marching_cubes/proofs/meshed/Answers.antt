@@ -20,7 +20,7 @@ pub shape_of-work-then-vertices-floats : goal.shape_of-work-then-vertices-floats
 shape_of-work-then-vertices-floats c = c.work-1.given
 
 pub returns-then-vertices-floats : goal.returns-then-vertices-floats
-returns-then-vertices-floats c = 
+returns-then-vertices-floats c =
     let args = c.args in
     let s = surface_of args.n args.numbering args.samples.now in
     vertices-left args.n args.numbering args.samples.now args.work.now args.vertices.now args.indices.now s _ _ c.counted.result _
@@ -33,7 +33,7 @@ pub shape_of-work-then-indices-counts : goal.shape_of-work-then-indices-counts
 shape_of-work-then-indices-counts c = c.work-1.given
 
 pub returns-then-indices-counts : goal.returns-then-indices-counts
-returns-then-indices-counts c = 
+returns-then-indices-counts c =
     let args = c.args in
     let s = surface_of args.n args.numbering args.samples.now in
     indices-left args.n args.numbering args.samples.now args.work.now args.vertices.now args.indices.now s _ _ c.counted-then-indices-counts.result _
@@ -44,7 +44,7 @@ shape_of-work-then-counts-eq0 c = c.work-1.given
 
 -- a grid without a surface
 pub returns-then-counts-eq0 : goal.returns-then-counts-eq0
-returns-then-counts-eq0 c = 
+returns-then-counts-eq0 c =
     let args = c.args in
     let s = surface_of args.n args.numbering args.samples.now in
     let none = c.if-counts-eq0.true in
@@ -58,7 +58,7 @@ returns-then-counts-eq0 c =
     (omega (arith, no-vertices)) (omega (arith, no-indices))
 
 pub fill-requires : goal.fill-requires
-fill-requires c = 
+fill-requires c =
     let made = c.count-reach.ensures.made_value.0 in
     let written = c.count-reach.ensures.made_value.1 in
     let floats = c.if-vertices-floats.false in
@@ -84,7 +84,7 @@ pub shape_of-indices : goal.shape_of-indices
 shape_of-indices c = c.indices-1.given
 
 pub returns : goal.returns
-returns c = 
+returns c =
     let args = c.args in
     let s = surface_of args.n args.numbering args.samples.now in
     let made = c.count-reach.ensures.made_value.0 in

@@ -15,8 +15,9 @@ loop-i-preserved c =
     let n : length values ≡ 8 = search rules in (
       search rules,
       elim c.if-values-i.branch [
-        then-values-i w ↦ w.signs-is ∙ rw c.loop-i.invariant.1 (turn_in values i (omega arith) (omega arith) w.if-values-i.true)
-      | else-values-i w ↦ w.signs-is ∙ rw c.loop-i.invariant.1 (turn-out values i (omega arith) w.if-values-i.false) ],
+        | then-values-i w ↦ w.signs-is ∙ rw c.loop-i.invariant.1 (turn_in values i (omega arith) (omega arith) w.if-values-i.true)
+        | else-values-i w ↦ w.signs-is ∙ rw c.loop-i.invariant.1 (turn-out values i (omega arith) w.if-values-i.false)
+      ],
     )
 
 pub returns : goal.returns

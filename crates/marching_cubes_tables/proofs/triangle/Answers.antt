@@ -13,7 +13,7 @@ use Rattle.marching_cubes_tables.proofs.triangle.Goals as goal
 
 pub returns : goal.returns
 unfolding triangle_table
-returns c = 
+returns c =
     let a = c.args in
     let e : a.table.now ≡ flat triangle_connection = c.requires.0 in
     to_z-of_z w8 (get_or a.table.now (16 * a.s + a.k) (pos 0)) (record { sfits = c.result-1.given })

@@ -5,18 +5,18 @@ use Rattle.mesh_write.proofs.Meshes.{contents_of-coordinate, contents_of-index, 
 use Rattle.mesh_write.proofs.contents_of.Goals as goal
 
 pub returns-then-coordinate-coordinates : goal.returns-then-coordinate-coordinates
-returns-then-coordinate-coordinates c = 
+returns-then-coordinate-coordinates c =
     c.refused.ensures
     ∙ contents_of-coordinate c.args.coordinates.now c.args.indices.now c.lowest_infinite-coordinate.result c.lowest_infinite-coordinate.ensures (omega arith)
 
 pub returns-then-index-indices : goal.returns-then-index-indices
-returns-then-index-indices c = 
+returns-then-index-indices c =
     c.refused-then-index-indices.ensures
     ∙ contents_of-index c.args.coordinates.now c.args.indices.now c.lowest_infinite-coordinate.result c.lowest_infinite-coordinate.ensures
     c.lowest_beyond-index.result (omega arith) c.lowest_beyond-index.ensures (omega arith)
 
 pub returns : goal.returns
-returns c = 
+returns c =
     c.refused-2.ensures
     ∙ contents_of-passed c.args.coordinates.now c.args.indices.now c.lowest_infinite-coordinate.result c.lowest_infinite-coordinate.ensures
     c.lowest_beyond-index.result (omega arith) c.lowest_beyond-index.ensures (omega arith)

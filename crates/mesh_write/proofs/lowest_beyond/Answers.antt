@@ -10,14 +10,14 @@ use borrow.Author.Rules.{rules}
 use Rattle.mesh_write.proofs.lowest_beyond.Goals as goal
 
 pub returns-then-limit-indices : goal.returns-then-limit-indices
-returns-then-limit-indices c = 
+returns-then-limit-indices c =
     let indices = c.args.indices.now in
     let limit = c.args.limit in
     let i = c.loop-i.i in
     sym (lowest_bad-bad (below limit) indices i (search rules) (le-ltb (get_or indices i 0) limit c.if-limit-indices.true)) ∙ c.loop-i.invariant.1
 
 pub loop-i-preserved : goal.loop-i-preserved
-loop-i-preserved c = 
+loop-i-preserved c =
     let indices = c.args.indices.now in
     let limit = c.args.limit in
     let i = c.loop-i.i in

@@ -14,7 +14,7 @@ use borrow.Author.Rules.{rules}
 use Rattle.mesh_write.proofs.lowest_infinite.Goals as goal
 
 pub returns-then-not-is_finite : goal.returns-then-not-is_finite
-returns-then-not-is_finite c = 
+returns-then-not-is_finite c =
     let floats = c.args.coordinates.now in
     let i = c.loop-i.i in
     let here : i < length floats = search rules in
@@ -22,7 +22,7 @@ returns-then-not-is_finite c =
     sym (lowest_bad-bad finite (map (to_bits binary32) floats) i (omega (arith, here, bits-length floats)) (test ∙ c.if-not-is_finite.true)) ∙ c.loop-i.invariant.1
 
 pub loop-i-preserved : goal.loop-i-preserved
-loop-i-preserved c = 
+loop-i-preserved c =
     let floats = c.args.coordinates.now in
     let i = c.loop-i.i in
     let here : i < length floats = search rules in
@@ -30,7 +30,7 @@ loop-i-preserved c =
     (search rules, sym (lowest_bad-good finite (map (to_bits binary32) floats) i (omega (arith, here, bits-length floats)) (test ∙ c.if-not-is_finite.false)) ∙ c.loop-i.invariant.1)
 
 pub returns : goal.returns
-returns c = 
+returns c =
     let floats = c.args.coordinates.now in
     let all : length floats ≤ c.loop-i.i = search rules in
     lowest_bad-end finite (map (to_bits binary32) floats) c.loop-i.i (omega (arith, all, bits-length floats)) c.loop-i.invariant.1

@@ -12,11 +12,11 @@ returns-then-not-is_good c = rw (sym c.is_good.ensures ∙ c.if-not-is_good.true
 pub level_in-requires : goal.level_in-requires
 level_in-requires c =
     let is-good : good c.args.key ≡ true =
-        sym c.is_good.ensures ∙ c.if-not-is_good.false in
+    sym c.is_good.ensures ∙ c.if-not-is_good.false in
     subst T (sym is-good) tt
 
 pub returns : goal.returns
 returns c =
     let is-good : good c.args.key ≡ true =
-        sym c.is_good.ensures ∙ c.if-not-is_good.false in
+    sym c.is_good.ensures ∙ c.if-not-is_good.false in
     rw (is-good, c.level_in.ensures)

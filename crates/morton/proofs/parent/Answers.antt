@@ -16,11 +16,11 @@ returns-then-not-is_good c = rw (sym c.is_good.ensures ∙ c.if-not-is_good.true
 pub returns-then-up-eq0 : goal.returns-then-up-eq0
 returns-then-up-eq0 c =
     let is-good : good c.args.key ≡ true =
-        sym c.is_good.ensures ∙ c.if-not-is_good.false in
+    sym c.is_good.ensures ∙ c.if-not-is_good.false in
     rw (is-good, c.if-up-eq0.true)
 
 pub returns : goal.returns
 returns c =
     let is-good : good c.args.key ≡ true =
-        sym c.is_good.ensures ∙ c.if-not-is_good.false in
+    sym c.is_good.ensures ∙ c.if-not-is_good.false in
     rw (is-good, at_least _ c.if-up-eq0.false)

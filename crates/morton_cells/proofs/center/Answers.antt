@@ -21,7 +21,7 @@ returns-then-not-is_good c = rw (sym c.is_good.ensures ∙ c.if-not-is_good.true
 pub level_in-level-requires : goal.level_in-level-requires
 level_in-level-requires c =
     let is-good : good c.args.key ≡ true =
-        sym c.is_good.ensures ∙ c.if-not-is_good.false in
+    sym c.is_good.ensures ∙ c.if-not-is_good.false in
     subst T (sym is-good) tt
 
 pub center_on-x-requires : goal.center_on-x-requires
@@ -36,7 +36,7 @@ center_on-z-requires c = level-le _ _ c.level_in-level.ensures
 pub returns : goal.returns
 returns c =
     let is-good : good c.args.key ≡ true =
-        sym c.is_good.ensures ∙ c.if-not-is_good.false in
+    sym c.is_good.ensures ∙ c.if-not-is_good.false in
     let key = c.args.key in
     let level = c.level_in-level.result in
     let x : c.center_on-x.result ≡ center_on X key = c.center_on-x.ensures ∙ center-on-axis X key _ level (omega arith) c.level_in-level.ensures in

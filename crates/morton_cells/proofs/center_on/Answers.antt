@@ -21,7 +21,7 @@ pub int_to_float-result : goal.int_to_float-result
 int_to_float-result c = whole c.coordinate.result c.args.level c.args.bits c.requires c.coordinate.ensures
 
 pub returns : goal.returns
-returns c = 
+returns c =
     let level = c.args.level in
     let b = thirds level c.args.bits in
     ap₂ (λ (x : ℕ) (size : Float). add binary32 (mul binary32 (of_int binary32 (pos x)) (mul binary32 size (of_bits binary32 0x4000_0000))) size)

@@ -17,7 +17,7 @@ pub overflow_sub-length_mask : goal.overflow_sub-length_mask
 overflow_sub-length_mask c = omega (arith, one_shl c.args.level c.requires, pow_pos c.args.level)
 
 pub returns : goal.returns
-returns c = 
+returns c =
     let bits = c.args.bits in
     let level = c.args.level in
     ap (λ (x : ℕ). bit_and (folded 512 (nines bits)) (x - 1)) (one_shl level c.requires) ∙ folds bits level c.requires

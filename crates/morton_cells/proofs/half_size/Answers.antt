@@ -14,7 +14,7 @@ returns-then-not-is_good c = rw (sym c.is_good.ensures ∙ c.if-not-is_good.true
 pub level_in-requires : goal.level_in-requires
 level_in-requires c =
     let is-good : good c.args.key ≡ true =
-        sym c.is_good.ensures ∙ c.if-not-is_good.false in
+    sym c.is_good.ensures ∙ c.if-not-is_good.false in
     subst T (sym is-good) tt
 
 pub half_size_at-requires : goal.half_size_at-requires
@@ -23,5 +23,5 @@ half_size_at-requires c = subst (λ (x : ℕ). x ≤ 21) (sym c.level_in.ensures
 pub returns : goal.returns
 returns c =
     let is-good : good c.args.key ≡ true =
-        sym c.is_good.ensures ∙ c.if-not-is_good.false in
+    sym c.is_good.ensures ∙ c.if-not-is_good.false in
     rw (is-good, c.half_size_at.ensures, c.level_in.ensures)

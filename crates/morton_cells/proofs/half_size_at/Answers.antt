@@ -22,6 +22,6 @@ pub int_to_float-result : goal.int_to_float-result
 int_to_float-result c = whole c.args.level c.requires
 
 pub returns : goal.returns
-returns c = 
+returns c =
     let level = c.args.level in
     ap (λ (x : ℕ). div binary32 (of_bits binary32 0x3F80_0000) (of_int binary32 (pos x))) (two-shl level c.requires) ∙ half-size-exact level c.requires

@@ -7,7 +7,7 @@ use Rattle.morton_sums.proofs.difference.Goals as goal
 
 pub returns : goal.returns
 unfolding own
-returns c = 
+returns c =
     let a = c.args.a in
     let b = c.args.b in
     joined c.wrapping_sub_u64-z.result c.wrapping_sub_u64-y.result c.wrapping_sub_u64-x.result

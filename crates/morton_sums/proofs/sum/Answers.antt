@@ -8,7 +8,7 @@ use Rattle.morton_sums.proofs.sum.Goals as goal
 
 pub returns : goal.returns
 unfolding own others
-returns c = 
+returns c =
     let a = c.args.a in
     let b = c.args.b in
     joined c.wrapping_add_u64-z.result c.wrapping_add_u64-y.result c.wrapping_add_u64-x.result

@@ -11,7 +11,7 @@ pub loop-i-preserved : goal.loop-i-preserved
 loop-i-preserved c = (ap (λ (d : List ℕ). set d c.loop-i.i 0) c.loop-i.invariant.0 ∙ fill_more c.loop-i.i 0 c.args.work.now (omega arith), simp length-set c.loop-i.invariant.1, omega arith)
 
 pub returns : goal.returns
-returns c = 
+returns c =
     let e : c.loop-i.i ≡ c.args.count = omega arith in
     let n : length {A = ℕ} (replicate c.args.count 0) ≡ c.args.count = length-replicate _ 0 in
     rw n (rw e at c.loop-i.invariant.0)

@@ -3,7 +3,7 @@ use Rattle.passes.proofs.Passes.{counted-pass, counted-span}
 use Rattle.passes.proofs.count.Goals as goal
 
 pub returns : goal.returns
-returns c = 
+returns c =
     let pass =
     counted-pass _ c.args.numbering c.args.samples.now _ c.args.work.now _ _ _ c.work_room-room.ensures c.requires.work-room c.hold_nothing.ensures
     c.count_grid-reach.ensures.counts_value c.clear.ensures in

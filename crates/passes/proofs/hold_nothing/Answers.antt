@@ -7,7 +7,7 @@ use Rattle.outcome.specs.Outcome.{over}
 use Rattle.passes.proofs.hold_nothing.Goals as goal
 
 pub returns-then-numbering-eq0 : goal.returns-then-numbering-eq0
-returns-then-numbering-eq0 c = 
+returns-then-numbering-eq0 c =
     let old = c.args.work.now in
     c.clear.ensures ∙ ap (λ (k : ℕ). over {A = ℕ} (replicate k 0) old) c.held_room.ensures ∙ sym (rw (eq-eqb _ 0 c.if-numbering-eq0.true))
 

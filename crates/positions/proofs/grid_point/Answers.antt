@@ -11,7 +11,7 @@ joined : (x y z : ℕ) (h u v w : Float) → u ≡ corner_of x h → v ≡ corne
 joined x y z h u v w p q r = rw (p, q, r)
 
 pub returns : goal.returns
-returns c = 
+returns c =
     let args = c.args in
     joined args.x args.y args.z args.h _ _ _
     c.corner_coordinate.ensures c.corner_coordinate-2.ensures c.corner_coordinate-3.ensures

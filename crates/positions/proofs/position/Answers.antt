@@ -5,6 +5,6 @@ use Rattle.marching_cubes_impl.specs.Vertex.{point_between}
 use Rattle.positions.proofs.position.Goals as goal
 
 pub returns : goal.returns
-returns c = 
+returns c =
     let args = c.args in
     c.interpolate.ensures ∙ ap (λ (t : Float). point_between args.u args.v t) c.get_offset.ensures

@@ -6,7 +6,7 @@ use Rattle.regular_cells.proofs.RegularVisits.{regular-visited}
 use Rattle.regular_cells.proofs.regular_visits.Goals as goal
 
 pub make_regular-requires : goal.make_regular-requires
-make_regular-requires c = 
+make_regular-requires c =
     record {
       cell_of = c.requires.cell_of;
       cache_room = c.requires.cache_room;
@@ -17,7 +17,7 @@ pub overflow_add-made : goal.overflow_add-made
 overflow_add-made c = let counts = c.requires.made_nonzero in omega (arith, counts.1, counts.2)
 
 pub name_all-requires : goal.name_all-requires
-name_all-requires c = 
+name_all-requires c =
     let row = c.requires.coordinates.1 in
     let args = c.args in
     (row-known args.regular args.word args.current.now row, row-most args.regular args.word args.current.now row, c.requires.made_nonzero.2)
@@ -32,7 +32,7 @@ pub shape_of-indices : goal.shape_of-indices
 shape_of-indices c = c.indices-1.given
 
 pub returns : goal.returns
-returns c = 
+returns c =
     let args = c.args in
     let cell = c.requires.cell_of in
     let row = c.requires.coordinates.1 in

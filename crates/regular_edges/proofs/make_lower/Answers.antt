@@ -8,7 +8,7 @@ use Rattle.regular_edges.proofs.NamedEdges.{lower-named}
 use Rattle.regular_edges.proofs.make_lower.Goals as goal
 
 pub make_two-requires : goal.make_two-requires
-make_two-requires c = 
+make_two-requires c =
     record {
       cell_of = c.requires.cell_of;
       cache_room = c.requires.cache_room;
@@ -17,7 +17,7 @@ make_two-requires c =
     }
 
 pub make_two-requires-2 : goal.make_two-requires-2
-make_two-requires-2 c = 
+make_two-requires-2 c =
     record {
       cell_of = c.requires.cell_of;
       cache_room = room-kept _ _ c.work-1.given c.requires.cache_room;
@@ -32,7 +32,7 @@ pub shape_of-vertices : goal.shape_of-vertices
 shape_of-vertices c = c.vertices-2-1.given ∙ c.vertices-1.given
 
 pub returns : goal.returns
-returns c = 
+returns c =
     let args = c.args in
     λ is counts. lower-named args.n args.samples.now args.x args.y args.z args.regular args.made (in_hand (in_cell args.work.now args.layer args.row args.current.now) args.vertices.now is counts) _ _
     (c.make_two.ensures is counts) (c.make_two-2.ensures is counts)

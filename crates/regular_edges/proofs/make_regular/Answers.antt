@@ -8,7 +8,7 @@ use Rattle.regular_edges.proofs.NamedEdges.{six-named}
 use Rattle.regular_edges.proofs.make_regular.Goals as goal
 
 pub make_lower-requires : goal.make_lower-requires
-make_lower-requires c = 
+make_lower-requires c =
     record {
       cell_of = c.requires.cell_of;
       cache_room = c.requires.cache_room;
@@ -16,7 +16,7 @@ make_lower-requires c =
     }
 
 pub make_two-requires : goal.make_two-requires
-make_two-requires c = 
+make_two-requires c =
     record {
       cell_of = c.requires.cell_of;
       cache_room = room-kept _ _ c.work-1.given c.requires.cache_room;
@@ -31,7 +31,7 @@ pub shape_of-vertices : goal.shape_of-vertices
 shape_of-vertices c = c.vertices-2-1.given ∙ c.vertices-1.given
 
 pub returns : goal.returns
-returns c = 
+returns c =
     let args = c.args in
     λ is counts. six-named args.n args.samples.now args.x args.y args.z args.regular args.made (in_hand (in_cell args.work.now args.layer args.row args.current.now) args.vertices.now is counts) _ _
     (c.make_lower.ensures is counts) (c.make_two.ensures is counts)

@@ -8,7 +8,7 @@ use Rattle.row_count.proofs.CountWord.{crate-step, joined_step}
 use Rattle.row_count.proofs.count_cell.Goals as goal
 
 pub held_cell-requires : goal.held_cell-requires
-held_cell-requires c = 
+held_cell-requires c =
     let row = c.requires.row_in.0 in
     let in-x = c.requires.row_in.1 in
     let in-y = row.in-y in
@@ -23,7 +23,7 @@ held_cell-requires c =
     }
 
 pub joined_counts-requires : goal.joined_counts-requires
-joined_counts-requires c = 
+joined_counts-requires c =
     let room = c.requires.countable in
     let class = c.class_at-here.ensures c.args.y c.args.z c.requires.class_value.0 in
     record {
@@ -32,14 +32,14 @@ joined_counts-requires c =
     }
 
 pub returns-then-numbering-eq0 : goal.returns-then-numbering-eq0
-returns-then-numbering-eq0 c = 
+returns-then-numbering-eq0 c =
     record {
       result_after = λ g byte. crate-step _ _ g _ _ _ _ _ _ _ c.if-numbering-eq0.true c.requires.class_value.2 byte c.held_cell.ensures.result_after;
       written_bound = c.held_cell.ensures.written_bound;
     }
 
 pub returns-else-numbering-eq0 : goal.returns-else-numbering-eq0
-returns-else-numbering-eq0 c = 
+returns-else-numbering-eq0 c =
     let class = c.class_at-here.ensures c.args.y c.args.z c.requires.class_value.0 in
     let bounds = c.joined_counts.ensures.made_le_written_2 in
     record {

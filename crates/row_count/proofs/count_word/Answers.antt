@@ -16,46 +16,46 @@ loop-rest-init c = (onward-first _ _ _ _ _ c.requires.countable.ordered, refl)
 pub overflow_mul-x : goal.overflow_mul-x
 overflow_mul-x c =
     let found : let args = c.args in (count_trailing_zeros 32 c.loop-rest.rest < cells_in args.n args.k) × (c.loop-rest.written ≤ args.counts.written + 15 * count_trailing_zeros 32 c.loop-rest.rest) × (args.n ≤ 128) =
-        let some : 0 < c.loop-rest.rest = omega arith in
-        let args = c.args in
-        let f = counted-found args.numbering args.n args.samples.now args.z args.y args.k _ _ _ _ c.loop-rest.invariant.0 c.requires.row_in.2 some in
-        (f.0, f.1, c.requires.row_in.0.most) in
+    let some : 0 < c.loop-rest.rest = omega arith in
+    let args = c.args in
+    let f = counted-found args.numbering args.n args.samples.now args.z args.y args.k _ _ _ _ c.loop-rest.invariant.0 c.requires.row_in.2 some in
+    (f.0, f.1, c.requires.row_in.0.most) in
     omega (arith, found.0, found.2)
 
 pub overflow_cast-x : goal.overflow_cast-x
 overflow_cast-x c =
     let found : let args = c.args in (count_trailing_zeros 32 c.loop-rest.rest < cells_in args.n args.k) × (c.loop-rest.written ≤ args.counts.written + 15 * count_trailing_zeros 32 c.loop-rest.rest) × (args.n ≤ 128) =
-        let some : 0 < c.loop-rest.rest = omega arith in
-        let args = c.args in
-        let f = counted-found args.numbering args.n args.samples.now args.z args.y args.k _ _ _ _ c.loop-rest.invariant.0 c.requires.row_in.2 some in
-        (f.0, f.1, c.requires.row_in.0.most) in
+    let some : 0 < c.loop-rest.rest = omega arith in
+    let args = c.args in
+    let f = counted-found args.numbering args.n args.samples.now args.z args.y args.k _ _ _ _ c.loop-rest.invariant.0 c.requires.row_in.2 some in
+    (f.0, f.1, c.requires.row_in.0.most) in
     omega (arith, found.0)
 
 pub overflow_add-x : goal.overflow_add-x
 overflow_add-x c =
     let found : let args = c.args in (count_trailing_zeros 32 c.loop-rest.rest < cells_in args.n args.k) × (c.loop-rest.written ≤ args.counts.written + 15 * count_trailing_zeros 32 c.loop-rest.rest) × (args.n ≤ 128) =
-        let some : 0 < c.loop-rest.rest = omega arith in
-        let args = c.args in
-        let f = counted-found args.numbering args.n args.samples.now args.z args.y args.k _ _ _ _ c.loop-rest.invariant.0 c.requires.row_in.2 some in
-        (f.0, f.1, c.requires.row_in.0.most) in
+    let some : 0 < c.loop-rest.rest = omega arith in
+    let args = c.args in
+    let f = counted-found args.numbering args.n args.samples.now args.z args.y args.k _ _ _ _ c.loop-rest.invariant.0 c.requires.row_in.2 some in
+    (f.0, f.1, c.requires.row_in.0.most) in
     omega (arith, found.0, found.2)
 
 pub case_of-case-requires : goal.case_of-case-requires
 case_of-case-requires c =
     let found : let args = c.args in (count_trailing_zeros 32 c.loop-rest.rest < cells_in args.n args.k) × (c.loop-rest.written ≤ args.counts.written + 15 * count_trailing_zeros 32 c.loop-rest.rest) × (args.n ≤ 128) =
-        let some : 0 < c.loop-rest.rest = omega arith in
-        let args = c.args in
-        let f = counted-found args.numbering args.n args.samples.now args.z args.y args.k _ _ _ _ c.loop-rest.invariant.0 c.requires.row_in.2 some in
-        (f.0, f.1, c.requires.row_in.0.most) in
+    let some : 0 < c.loop-rest.rest = omega arith in
+    let args = c.args in
+    let f = counted-found args.numbering args.n args.samples.now args.z args.y args.k _ _ _ _ c.loop-rest.invariant.0 c.requires.row_in.2 some in
+    (f.0, f.1, c.requires.row_in.0.most) in
     omega (arith, found.0)
 
 pub count_cell-next-requires : goal.count_cell-next-requires
 count_cell-next-requires c =
     let found : let args = c.args in (count_trailing_zeros 32 c.loop-rest.rest < cells_in args.n args.k) × (c.loop-rest.written ≤ args.counts.written + 15 * count_trailing_zeros 32 c.loop-rest.rest) × (args.n ≤ 128) =
-        let some : 0 < c.loop-rest.rest = omega arith in
-        let args = c.args in
-        let f = counted-found args.numbering args.n args.samples.now args.z args.y args.k _ _ _ _ c.loop-rest.invariant.0 c.requires.row_in.2 some in
-        (f.0, f.1, c.requires.row_in.0.most) in
+    let some : 0 < c.loop-rest.rest = omega arith in
+    let args = c.args in
+    let f = counted-found args.numbering args.n args.samples.now args.z args.y args.k _ _ _ _ c.loop-rest.invariant.0 c.requires.row_in.2 some in
+    (f.0, f.1, c.requires.row_in.0.most) in
     let f = found in
     let same = c.loop-rest.invariant.1 in
     let room = c.requires.countable in
@@ -72,17 +72,17 @@ pub overflow_sub-rest : goal.overflow_sub-rest
 overflow_sub-rest c = omega arith
 
 pub loop-rest-smaller : goal.loop-rest-smaller
-loop-rest-smaller c = 
+loop-rest-smaller c =
     let some : 0 < c.loop-rest.rest = omega arith in
     gone-less _ some
 
 pub loop-rest-preserved : goal.loop-rest-preserved
 loop-rest-preserved c =
     let found : let args = c.args in (count_trailing_zeros 32 c.loop-rest.rest < cells_in args.n args.k) × (c.loop-rest.written ≤ args.counts.written + 15 * count_trailing_zeros 32 c.loop-rest.rest) × (args.n ≤ 128) =
-        let some : 0 < c.loop-rest.rest = omega arith in
-        let args = c.args in
-        let f = counted-found args.numbering args.n args.samples.now args.z args.y args.k _ _ _ _ c.loop-rest.invariant.0 c.requires.row_in.2 some in
-        (f.0, f.1, c.requires.row_in.0.most) in
+    let some : 0 < c.loop-rest.rest = omega arith in
+    let args = c.args in
+    let f = counted-found args.numbering args.n args.samples.now args.z args.y args.k _ _ _ _ c.loop-rest.invariant.0 c.requires.row_in.2 some in
+    (f.0, f.1, c.requires.row_in.0.most) in
     let args = c.args in
     let some : 0 < c.loop-rest.rest = omega arith in
     let case = c.case_of-case.ensures.case_from _ args.samples.now args.y args.z _ c.requires.row_in.1 found.0 in
@@ -90,7 +90,7 @@ loop-rest-preserved c =
     (counted_next args.numbering args.n args.samples.now args.z args.y args.k _ _ _ _ c.loop-rest.invariant.0 c.requires.row_in.2 _ some added c.count_cell-next.ensures.written_bound.0 c.count_cell-next.ensures.written_bound.1, search rules)
 
 pub returns : goal.returns
-returns c = 
+returns c =
     let on = c.loop-rest.invariant.0 in
     let grown = on.at.grown in
     let within = on.at.within in

@@ -6,7 +6,7 @@ use Rattle.row_count.proofs.count_word.Given as goal
 
 abbrev pub invariant-loop-rest : goal.invariant-loop-rest
 invariant-loop-rest l =
-    Counted l.numbering l.n l.samples l.z l.y l.k (record { l.work = l.initial.work; l.made = l.initial.made; l.written = l.initial.written }) (record { l.work = l.work; l.made = l.made; l.written = l.written }) l.mask l.rest
+    Counted l.numbering l.n l.samples l.z l.y l.k (record { work = l.initial.work; made = l.initial.made; written = l.initial.written }) (record { work = l.work; made = l.made; written = l.written }) l.mask l.rest
     × (length l.work ≡ length l.initial.work)
 
 abbrev pub decreases-loop-rest : goal.decreases-loop-rest

@@ -6,7 +6,7 @@ use Rattle.row_walk.proofs.OneCell.{crate-step, joined_step, parity-le}
 use Rattle.row_walk.proofs.one_cell.Goals as goal
 
 pub crate_cell-requires : goal.crate_cell-requires
-crate_cell-requires c = 
+crate_cell-requires c =
     let cell = c.requires.cell_of in
     let found = c.requires.case_value in
     let room = c.requires.room in
@@ -20,7 +20,7 @@ crate_cell-requires c =
     }
 
 pub joined_cell-requires : goal.joined_cell-requires
-joined_cell-requires c = 
+joined_cell-requires c =
     let found = c.requires.case_value in
     let room = c.requires.room in
     let enough = room.enough in
@@ -32,14 +32,14 @@ joined_cell-requires c =
     }
 
 pub returns-then-numbering-eq0 : goal.returns-then-numbering-eq0
-returns-then-numbering-eq0 c = 
+returns-then-numbering-eq0 c =
     record {
       result_after = crate-step _ _ _ _ _ _ _ _ _ c.if-numbering-eq0.true c.requires.case_value.2 c.crate_cell.ensures.result_after;
       written_bound = c.crate_cell.ensures.written_bound;
     }
 
 pub returns-else-numbering-eq0 : goal.returns-else-numbering-eq0
-returns-else-numbering-eq0 c = 
+returns-else-numbering-eq0 c =
     let bounds = c.joined_cell.ensures.made_le_written in
     record {
       result_after = joined_step _ _ _ _ _ _ _ _ c.if-numbering-eq0.false c.joined_cell.ensures.result_after;

@@ -9,14 +9,14 @@ use Rattle.row_walk.proofs.WordLoop.{row-idle}
 use Rattle.row_walk.proofs.row_cells.Goals as goal
 
 pub outside-requires : goal.outside-requires
-outside-requires c = 
+outside-requires c =
     let row = c.requires.row_of.0 in
     let most = row.layer.most in
     let in-y = row.in-y in
     omega arith
 
 pub returns-then-outside : goal.returns-then-outside
-returns-then-outside c = 
+returns-then-outside c =
     let row = c.requires.row_of.0 in
     let none = c.outside.ensures c.if-outside.true c.args.n c.args.samples.now c.args.z c.requires.layer_words.0 c.requires.layer_words.1 row.layer.most row.in-y in
     record {
@@ -31,20 +31,20 @@ pub overflow_sub-n : goal.overflow_sub-n
 overflow_sub-n c = let least = c.requires.row_of.0.layer.least in omega arith
 
 pub quad_at-quad-requires : goal.quad_at-quad-requires
-quad_at-quad-requires c = 
+quad_at-quad-requires c =
     let row = c.requires.row_of.0 in
     let most = row.layer.most in
     let in-y = row.in-y in
     (omega arith, omega arith)
 
 pub active-mask-requires : goal.active-mask-requires
-active-mask-requires c = 
+active-mask-requires c =
     let layer = c.requires.row_of.0.layer in
     let most = layer.most in
     (layer.least, most, omega arith)
 
 pub word_cells-reached-requires : goal.word_cells-reached-requires
-word_cells-reached-requires c = 
+word_cells-reached-requires c =
     let row = c.requires.row_of.0 in
     let most = row.layer.most in
     let at = c.loop-k.invariant.0 in
@@ -65,14 +65,14 @@ pub loop-k-smaller : goal.loop-k-smaller
 loop-k-smaller c = omega arith
 
 pub loop-k-preserved : goal.loop-k-preserved
-loop-k-preserved c = 
+loop-k-preserved c =
     let most = c.requires.row_of.0.layer.most in
     let more : 32 * c.loop-k.k < c.args.n - 1 = omega arith in
     (reached-word _ _ _ _ _ _ _ more c.loop-k.invariant.0 c.word_cells-reached.ensures.result_after c.word_cells-reached.ensures.written_bound.0 c.word_cells-reached.ensures.written_bound.1, omega arith, search rules, search rules, search rules)
 
 pub returns : goal.returns
 unfolding cells_of_row
-returns c = 
+returns c =
     let most = c.requires.row_of.0.layer.most in
     let at = c.loop-k.invariant.0 in
     let grown = at.grown in

@@ -13,6 +13,6 @@ pub loop-i-preserved : goal.loop-i-preserved
 loop-i-preserved c = (search rules, flag-suc c.args.samples.now c.loop-i.i c.loop-i.bad (search rules) c.loop-i.invariant.1)
 
 pub returns : goal.returns
-returns c = 
+returns c =
     let samples = c.args.samples.now in
     flag-end samples c.loop-i.i c.loop-i.bad (search rules) c.loop-i.invariant.1

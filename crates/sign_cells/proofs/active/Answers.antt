@@ -5,6 +5,6 @@ use Rattle.sign_cells.proofs.active.Goals as goal
 
 pub returns : goal.returns
 unfolding mixed_word some_word every_word
-returns c y z known = 
+returns c samples y z known =
     let args = c.args in
     c.cut.ensures ∙ mixed_word-active args.n samples y z args.k args.q known

@@ -4,7 +4,7 @@ use Rattle.sign_cells.proofs.case_of.Goals as goal
 
 pub returns : goal.returns
 unfolding case_number
-returns c = 
+returns c =
     let args = c.args in
     let q = args.q in
     record {

@@ -4,6 +4,6 @@ use Rattle.sign_cells.proofs.LongWords.{long_word-signs}
 use Rattle.sign_cells.proofs.long_word.Goals as goal
 
 pub returns : goal.returns
-returns c = 
+returns c =
     let args = c.args in
     long_word-signs args.words.now args.y args.k _ _ (omega arith) (omega arith) (omega arith) c.word_at-low.ensures c.word_at.ensures

@@ -4,7 +4,7 @@ use native.Mathlib.Omega.{arith}
 use Rattle.sign_cells.proofs.quad_at.Goals as goal
 
 pub returns : goal.returns
-returns c samples z low high most in-y = 
+returns c n samples z low high most in-y =
     record {
       low = c.long_word.ensures n samples z low most (omega arith);
       low-next = c.long_word-2.ensures n samples z low most in-y;

@@ -8,13 +8,13 @@ use Rattle.sign_words.proofs.RowWords.{row-none, row-suc}
 use Rattle.sign_words.proofs.fill_end.Goals as goal
 
 pub loop-k-init : goal.loop-k-init
-loop-k-init c = 
+loop-k-init c =
     let args = c.args in
     let most = c.requires.0 in
     (omega arith, omega arith, c.requires.3, λ z e. row-none args.n args.samples.now z args.y (args.n / 32) args.words.now)
 
 pub loop-k-preserved : goal.loop-k-preserved
-loop-k-preserved c = 
+loop-k-preserved c =
     let args = c.args in
     let past = c.loop-k.invariant.0 in (
       omega arith,
@@ -29,6 +29,6 @@ pub shape_of-words : goal.shape_of-words
 shape_of-words c = c.loop-k.invariant.2 ∙ sym c.requires.3
 
 pub returns : goal.returns
-returns c e = 
+returns c z e =
     let begun = c.loop-k.invariant.3 z e in
     record { words = λ k h l. begun.words k h (omega arith); kept = begun.kept }

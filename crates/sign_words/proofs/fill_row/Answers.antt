@@ -19,17 +19,17 @@ overflow_mul-start-2 c = omega (arith, row_within c.args.n c.args.y c.args.z c.r
 pub fill_whole-requires : goal.fill_whole-requires
 fill_whole-requires c =
     let row-there : (c.args.z * c.args.n + c.args.y) * c.args.n + c.args.n ≤ length c.args.samples.now =
-        le_trans (row_within c.args.n c.args.y c.args.z c.requires.1) c.requires.2 in
+    le_trans (row_within c.args.n c.args.y c.args.z c.requires.1) c.requires.2 in
     (c.requires.0, c.requires.1, row-there, c.requires.3)
 
 pub fill_end-requires : goal.fill_end-requires
 fill_end-requires c =
     let row-there : (c.args.z * c.args.n + c.args.y) * c.args.n + c.args.n ≤ length c.args.samples.now =
-        le_trans (row_within c.args.n c.args.y c.args.z c.requires.1) c.requires.2 in
+    le_trans (row_within c.args.n c.args.y c.args.z c.requires.1) c.requires.2 in
     (c.requires.0, c.requires.1, row-there, c.words-1.given ∙ c.requires.3)
 
 pub returns : goal.returns
-returns c = 
+returns c =
     let args = c.args in
     let first = c.fill_whole.ensures args.z refl in
     let second = c.fill_end.ensures args.z refl in

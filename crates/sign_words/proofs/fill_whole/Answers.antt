@@ -8,12 +8,12 @@ use Rattle.sign_words.proofs.RowWords.{row-none, row-suc, word_from-whole}
 use Rattle.sign_words.proofs.fill_whole.Goals as goal
 
 pub loop-k-init : goal.loop-k-init
-loop-k-init c = 
+loop-k-init c =
     let args = c.args in
     (refl, omega arith, c.requires.3, λ z e. row-none args.n args.samples.now z args.y 0 args.words.now)
 
 pub loop-k-preserved : goal.loop-k-preserved
-loop-k-preserved c = 
+loop-k-preserved c =
     let args = c.args in
     let is = c.loop-k.invariant.0 in
     let word = c.whole_word.ensures ∙ word_from-whole args.samples.now args.start args.n c.loop-k.k (omega arith) in (
@@ -29,7 +29,7 @@ pub shape_of-words : goal.shape_of-words
 shape_of-words c = c.loop-k.invariant.2 ∙ sym c.requires.3
 
 pub returns : goal.returns
-returns c e = 
+returns c z e =
     let is = c.loop-k.invariant.0 in
     let begun = c.loop-k.invariant.3 z e in
     record { words = λ k h l. begun.words k h (omega arith); kept = begun.kept }

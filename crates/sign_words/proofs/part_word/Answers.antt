@@ -12,12 +12,12 @@ unfolding word_of
 loop-i-init c = search rules
 
 pub loop-i-preserved : goal.loop-i-preserved
-loop-i-preserved c = 
+loop-i-preserved c =
     let args = c.args in
     (omega arith, sign-turn args.samples.now args.at c.loop-i.i c.loop-i.word _ (omega arith) c.loop-i.invariant.1 c.is_inside.ensures)
 
 pub returns : goal.returns
-returns c = 
+returns c =
     let args = c.args in
     let all : c.loop-i.i ≡ args.count = omega arith in
     c.loop-i.invariant.1 ∙ ap (sign_word args.samples.now args.at) all

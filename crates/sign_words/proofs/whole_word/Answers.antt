@@ -5,13 +5,14 @@ use native.Mathlib.Omega.{arith}
 use borrow.Author.Rules.{rules}
 use Rattle.sign_words.specs.Words.{word_of}
 use Rattle.sign_words.proofs.KeptBits.{still, still-none, still-all, still-turn}
+use Rattle.sign_words.proofs.whole_word.Invariants.{sign}
 use Rattle.sign_words.proofs.whole_word.Goals as goal
 
 pub loop-i-init : goal.loop-i-init
 loop-i-init c = (search rules, still-none (sign c.args.samples.now c.args.at))
 
 pub loop-i-preserved : goal.loop-i-preserved
-loop-i-preserved c = 
+loop-i-preserved c =
     let args = c.args in (
       omega arith,
       still-turn
@@ -26,7 +27,7 @@ loop-i-preserved c =
     )
 
 pub returns : goal.returns
-returns c = 
+returns c =
     let args = c.args in
     let all : c.loop-i.i ≡ 32 = omega arith in
     let signs = sign args.samples.now args.at in

@@ -10,7 +10,7 @@ use Rattle.sign_words.specs.Words.{word_of}
 use Rattle.sign_words.proofs.KeptBits.{still}
 use Rattle.sign_words.proofs.whole_word.Given as goal
 
-abbrev sign : List Float → ℕ → ℕ → Bool
+abbrev pub sign : List Float → ℕ → ℕ → Bool
 sign samples at i = inside (get_or samples (at + i) nan)
 
 abbrev pub invariant-loop-i : goal.invariant-loop-i

@@ -13,7 +13,7 @@ pub loop-i-init : goal.loop-i-init
 loop-i-init c = (search rules, refl, refl)
 
 pub loop-i-preserved : goal.loop-i-preserved
-loop-i-preserved c = 
+loop-i-preserved c =
     let bytes = c.args.bytes.now in
     let at = c.args.at in
     let count = c.args.count in
@@ -27,7 +27,7 @@ loop-i-preserved c =
     )
 
 pub returns : goal.returns
-returns c = 
+returns c =
     let all : c.loop-i.i ≡ c.args.count = search rules in
     c.loop-i.invariant.1 ∙ copied_to-end (words_from c.args.bytes.now c.args.at c.args.count) c.args.buffer.now c.loop-i.i
     (all ∙ sym (words_from-length c.args.bytes.now c.args.at c.args.count c.requires.0))

@@ -14,7 +14,7 @@ pub loop-i-init : goal.loop-i-init
 loop-i-init c = (search rules, refl, refl)
 
 pub loop-i-preserved : goal.loop-i-preserved
-loop-i-preserved c = 
+loop-i-preserved c =
     let floats = c.args.list.now in
     let i = c.loop-i.i in
     let here : i < length floats = search rules in (
@@ -25,7 +25,7 @@ loop-i-preserved c =
     )
 
 pub returns : goal.returns
-returns c = 
+returns c =
     let floats = c.args.list.now in
     let all : c.loop-i.i ≡ length floats = search rules in
     c.loop-i.invariant.2 ∙ put_to-end c.args.bytes.now c.args.at (map (to_bits binary32) floats) c.loop-i.i (all ∙ sym (length-map floats (to_bits binary32)))
