@@ -18,7 +18,7 @@ abbrev pub invariant-loop-z : goal.invariant-loop-z
 invariant-loop-z l =
     Reached count_in (λ j t. end_step l.numbering l.n (inside_of l.n l.samples) j (cells_of_layer (count_step l.numbering l.n (inside_of l.n l.samples)) l.n j (l.n - 1) t)) (held l.initial.work l.initial.reached) (held l.work l.reached) l.z (243840 * l.z)
     × (l.z ≤ l.n) × (l.row ≡ row_parity l.n l.z 0) × LayerWords l.n l.samples l.z l.low × (length l.work ≡ length l.initial.work)
-    × GrowsWithin (λ k. (times k (λ j t. end_step l.numbering l.n (inside_of l.n l.samples) j (cells_of_layer (count_step l.numbering l.n (inside_of l.n l.samples)) l.n j (l.n - 1) t)) (held l.initial.work l.initial.reached)).writtel.n) l.z l.span
+    × GrowsWithin (λ k. (times k (λ j t. end_step l.numbering l.n (inside_of l.n l.samples) j (cells_of_layer (count_step l.numbering l.n (inside_of l.n l.samples)) l.n j (l.n - 1) t)) (held l.initial.work l.initial.reached)).written) l.z l.span
 
 abbrev pub decreases-loop-z : goal.decreases-loop-z
 decreases-loop-z l =
