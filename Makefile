@@ -1,10 +1,10 @@
 # make demo          builds the library, the planner and the workshop's program, and shows a result
-# make programs      builds build/bin/planner, build/bin/workshop and build/bin/grid for this machine's own processor
-# make test          compares with the Rust, tests the programs and the C boundary, and proves everything; its last line is the prover's count
+# make programs      builds build/bin/planner, build/bin/workshop and build/bin/grid with this machine's own compiler
+# make test          compares with the Rust, tests the programs and the C boundary, and proves everything; its last line is the prover's count (.ci/run)
 # make oracle N=..   compares that many small grids, and one in 5,000 as many large ones, with the Rust (SEED=.. for other grids)
 # make bench         times the library beside the Rust, counts its instructions and writes docs/BENCH.md; make bench-peers times VTK and scikit-image for it
 .DELETE_ON_ERROR:
-.PHONY: demo programs test examples bench bench-peers fuzz setup layout names evidence mutants unchanged header oracle archive listing planner workshop workshop-peers prove crate-table
+.PHONY: demo programs test checks examples bench bench-peers fuzz setup layout names evidence mutants unchanged header oracle archive listing planner workshop workshop-peers prove crate-table
 
 CASES ?= 1000000
 SEED ?= 1
@@ -15,7 +15,9 @@ demo: programs
 
 programs: build/bin/planner build/bin/workshop build/bin/grid
 
-test: layout names unchanged header oracle archive listing planner workshop examples prove
+test: checks prove
+
+checks: layout names unchanged header oracle archive listing planner workshop examples
 
 setup:
 	tools/setup cc c++ cargo python3
@@ -27,7 +29,7 @@ layout: setup
 names: setup
 	tools/names
 
-# the tables of docs/EVIDENCE.md, from the repository and what the prover left of its must-fail edits
+# the tables of docs/EVIDENCE.md, from the repository and what the prover said of its must-fail edits in the last `make prove`
 evidence: setup
 	tools/evidence
 
@@ -45,7 +47,7 @@ header: setup
 	cc -std=c99 -Wall -Wextra -Werror -pedantic -fsyntax-only -x c include/bridgeyarn.h
 	c++ -Wall -Wextra -Werror -pedantic -fsyntax-only -x c++ include/bridgeyarn.h
 
-# the library for this machine, call by call beside the unchanged Rust; a grid that differs is left in build/oracle as a sample record
+# the library, call by call beside the unchanged Rust; a grid that differs is left in build/oracle as a sample record
 oracle: $(HARNESS)
 ifdef N
 	$(HARNESS) grids $(N) $(SEED)
@@ -69,7 +71,7 @@ listing: build/listing/program $(HARNESS)
 	$(HARNESS) listings build/listing/made
 	oracle/listing/run build/listing/program build/listing/made
 
-# the planner: linked with the archive that users link, built for this machine with the checks of addresses and undefined behaviour, and as
+# the planner: linked with the archive that users link and the kit's C library, built with this machine's compiler with the checks of addresses and undefined behaviour, and as
 # `make programs` builds it, which the long tests take; the check of leaks traces the process, which not every machine allows
 planner: programs build/planner/planner build/planner/grid build/planner/planner-checked build/native/faults.so
 	tools/libc-check
@@ -93,15 +95,15 @@ examples: build/examples/first-checked programs
 workshop-peers:
 	apt-get install -y -qq python3-meshio admesh
 
-# the table of crates in the README: the lines as they are, and the seconds that LOG, the output of `rt ci`, has
+# the table of crates in the README: the lines as they are, and the seconds that LOG has, if it is given
 crate-table:
 	tools/crate-table $(LOG)
 
-# from nothing: every crate, every must-fail edit, every program; nothing may come after it
+# every crate, every must-fail edit, every program; nothing may come after it, since its last line is the prover's count
 prove: setup
 	tools/prove
 
-# the library for this machine beside the Rust, in one process; peers that were timed before are listed with it
+# the library beside the Rust, in one process; peers that were timed before are listed with it
 bench: build/bench/release/bench
 	build/bench/release/bench run docs/BENCH.md build/bench/peers.md
 	build/bench/release/instructions >build/bench/instructions.md
@@ -111,18 +113,17 @@ bench: build/bench/release/bench
 bench-peers: build/bench/release/bench
 	bench/peers build/bench/release/bench build/bench
 
-LISTING_SOURCES := $(shell find crates/listing crates/listing_words crates/listing_runs crates/listing_text -name '*.rt' -o -name '*.antt')
-SOURCES := $(filter-out $(LISTING_SOURCES),$(shell find crates -name '*.rt' -o -name '*.antt'))
+LISTING_SOURCES := $(shell find crates/listing crates/listing_words crates/listing_runs crates/listing_text -name out -prune -o \( -name '*.rt' -o -name '*.antt' \) -print)
+SOURCES := $(filter-out $(LISTING_SOURCES),$(shell find crates -name out -prune -o \( -name '*.rt' -o -name '*.antt' \) -print))
 
-build/archive/libbridgeyarn.a: $(SOURCES) | setup
-	@echo "proving bridgeyarn and what it rests on, and compiling it for x86-64"
-	rt staticlib bridgeyarn
-	mkdir -p build/archive
-	cp target/staticlib/libbridgeyarn.a $@
-
-build/native/libbridgeyarn.a: $(SOURCES) tools/native-lib | setup
-	@echo "proving bridgeyarn and what it rests on, and compiling it for $$(uname -m)"
+build/archive/libbridgeyarn.a: $(SOURCES) tools/native-lib | setup
+	@echo "proving bridgeyarn and what it rests on, and compiling it"
 	tools/native-lib bridgeyarn $@
+
+# the programs and the harness that this machine's own compilers build link the same archive
+build/native/libbridgeyarn.a: build/archive/libbridgeyarn.a
+	mkdir -p build/native
+	cp build/archive/libbridgeyarn.a $@
 
 $(HARNESS): build/native/libbridgeyarn.a $(shell find oracle -name '*.rs' -o -name '*.toml') | setup
 	cd oracle/isosurface && RUSTFLAGS=-Awarnings CARGO_TARGET_DIR=$(CURDIR)/build/isosurface cargo build --release --offline --quiet
@@ -130,10 +131,10 @@ $(HARNESS): build/native/libbridgeyarn.a $(shell find oracle -name '*.rs' -o -na
 	touch $@
 
 build/listing/program: $(SOURCES) $(LISTING_SOURCES) | setup
-	@echo "proving the listing program and what it rests on, and compiling it for x86-64"
-	rt check listing
+	@echo "proving the listing program and what it rests on, and compiling it"
 	mkdir -p build/listing
-	cp target/bin/listing $@
+	cd crates/listing && rt run <stdin >$(CURDIR)/build/listing/ran && cmp $(CURDIR)/build/listing/ran stdout
+	cp crates/listing/out/listing $@
 
 FILES := $(wildcard mesh_files/*.c)
 PLANNER := planner/planner.c $(FILES)

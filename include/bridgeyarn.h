@@ -73,7 +73,7 @@ typedef struct {
 } bridgeyarn_cell_answer;
 
 /* The sign byte of eight corner values, and the edges of the triangles in the cell. Any float is taken.
- * Definition: cellOf, crates/marching_cubes_impl/specs/Cell.antt. */
+ * Definition: cell_of, crates/marching_cubes_impl/specs/Cell.antt. */
 bridgeyarn_cell_answer bridgeyarn_cell(const float values[8]);
 
 /* ---- one edge */
@@ -91,7 +91,7 @@ typedef struct {
 
 /* Whether and where the surface crosses the edge whose ends have the samples a and b, in order. A bad sample is refused first; then there
  * is a crossing exactly where one of the two is <= 0.0.
- * Definition: edgeAnswer (crossingOf a b), crates/edge_answer/specs/Edge.antt and crates/marching_cubes_impl/specs/Edge.antt. */
+ * Definition: edge_answer (crossing_of a b), crates/edge_answer/specs/Edge.antt and crates/marching_cubes_impl/specs/Edge.antt. */
 bridgeyarn_edge_answer bridgeyarn_edge(float a, float b);
 
 /* ---- a sample record
@@ -111,7 +111,7 @@ typedef struct {
 /* What the bytes hold, or the first refusal in this order: under 20 bytes (BAD_RECORD, place = length); version (BAD_RECORD, place 0); size
  * under 2 or over 128 (BAD_SIZE); BAD_NUMBERING; BAD_COUNT; place of the samples (BAD_RECORD, place 16); length other than 20 + 4 * count
  * (BAD_RECORD, place 20). The bytes are only read, and the samples not looked at; any bytes are taken, and none (NULL, 0).
- * Definition: recordAnswer (recordOf 128 bytes), crates/record_answer/specs/Record.antt and crates/sample_record/specs/Record.antt. */
+ * Definition: record_answer (record_of 128 bytes), crates/record_answer/specs/Record.antt and crates/sample_record/specs/Record.antt. */
 bridgeyarn_record_answer bridgeyarn_record(const uint8_t *bytes, size_t length);
 
 /* ---- a mesh record
@@ -119,7 +119,7 @@ bridgeyarn_record_answer bridgeyarn_record(const uint8_t *bytes, size_t length);
  * Seven little-endian u32: version 1, size (2 to 128), numbering (0 or 1), vertex count V, byte place of the vertices, always 28, index count I, a
  * multiple of three, and byte place of the indices, 28 + 12 * V; then the vertices, three little-endian f32 each, all finite; then the indices as
  * little-endian u32, each below V; and nothing after them: the length is 28 + 12 * V + 4 * I. Two records of one mesh are the same bytes, and
- * coordinates keep their bits, both zeros and subnormal values too. Definitions: recordBytes and Good, crates/mesh_record/specs/Mesh.antt. */
+ * coordinates keep their bits, both zeros and subnormal values too. Definitions: record_bytes and Good, crates/mesh_record/specs/Mesh.antt. */
 
 #define BRIDGEYARN_MESH_VERSION 1u
 #define BRIDGEYARN_MESH_HEADER 28u  /* bytes before the vertices */
@@ -175,13 +175,13 @@ typedef struct {
     uint64_t value;
 } bridgeyarn_key_answer;
 
-/* The level of a good key. Definition: levelOf, crates/morton/specs/Answer.antt. */
+/* The level of a good key. Definition: level_of, crates/morton/specs/Answer.antt. */
 bridgeyarn_key_answer bridgeyarn_morton_level(uint64_t key);
 
-/* The good key shifted right by 3, never below 1: the root is its own parent. Definition: parentOf. */
+/* The good key shifted right by 3, never below 1: the root is its own parent. Definition: parent_of. */
 bridgeyarn_key_answer bridgeyarn_morton_parent(uint64_t key);
 
-/* 8 * key + which, of a good key below level 21 and a which up to 7; anything else is refused. Definition: childOf. */
+/* 8 * key + which, of a good key below level 21 and a which up to 7; anything else is refused. Definition: child_of. */
 bridgeyarn_key_answer bridgeyarn_morton_child(uint64_t key, uint32_t which);
 
 typedef struct {
@@ -189,15 +189,15 @@ typedef struct {
     float value;
 } bridgeyarn_half_size_answer;
 
-/* 1 / 2^(level + 1), exactly. Definition: halfSizeOf, crates/morton_cells/specs/Cell.antt. */
+/* 1 / 2^(level + 1), exactly. Definition: half_size_of, crates/morton_cells/specs/Cell.antt. */
 bridgeyarn_half_size_answer bridgeyarn_morton_half_size(uint64_t key);
 
 /* Returns the cause. After 0, center holds x, y and z: (2b + 1) / 2^(level + 1) exactly, b being the number on the axis without the key's
- * highest set bit. After 9, center is as it was. The pointer is aligned and good for three floats. Definition: centerOf. */
+ * highest set bit. After 9, center is as it was. The pointer is aligned and good for three floats. Definition: center_of. */
 uint32_t bridgeyarn_morton_center(uint64_t key, float center[3]);
 
 /* The word whose number on each axis is the sum, or the difference, of those of a and b, modulo 2^22 for x and 2^21 for y and z. Any two
- * words are taken and neither call refuses. Definitions: sumOf and differenceOf, crates/morton_sums/specs/Interleaved.antt. */
+ * words are taken and neither call refuses. Definitions: sum_of and difference_of, crates/morton_sums/specs/Interleaved.antt. */
 uint64_t bridgeyarn_morton_sum(uint64_t a, uint64_t b);
 uint64_t bridgeyarn_morton_difference(uint64_t a, uint64_t b);
 

@@ -1,3 +1,4 @@
 pub mod Room
 pub mod Mesh
 pub mod Bytes
+pub mod Known

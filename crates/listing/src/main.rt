@@ -3,7 +3,8 @@
 // `main` reads and writes.
 #![tactic(auto)]
 
-ghost use Rattle.std.specs.Prelude.{◌≡◌, ◌++◌, ◌+◌, ◌*◌, ◌/◌, ◌≤◌, length, take, IfOk};
+ghost use Rattle.std.specs.Prelude.{◌≡◌, ◌++◌, ◌+◌, ◌*◌, ◌/◌, ◌≤◌, length, take, IfOk, OnOk, IfSome};
+ghost use Rattle.std.specs.Io.KnownBytes.{Appends};
 ghost use Rattle.listing_words.specs.Put.{Put};
 ghost use Rattle.listing_runs.specs.Runs.{lines_of, vertex_line_at, face_line_at};
 ghost use Rattle.listing_text.specs.Lines.{first_line};
@@ -83,30 +84,34 @@ fn list(bytes: &[u8], text: &mut [u8]) -> usize
 // Reads until the bytes are full or the input ends, and says how many were read.
 fn read_full<R: Read>(reader: &mut R, bytes: &mut [u8]) -> io::Result<usize>
     ensures within { IfOk result (λ count. count ≤ length bytes.new) }
+    ensures taken { IfOk result (λ count. IfSome (R.remaining reader.old)
+        (λ there. take count bytes.new ≡ take (length bytes.old) there)) }
 {
     let mut count = 0;
-    'turns: for _ in 0..u64::MAX {
-        if count >= bytes.len() {
-            break 'turns;
+    while count < bytes.len() {
+        let more = reader.read(&mut bytes[count..])?;
+        if more == 0 {
+            return Ok(count);
         }
-        match reader.read(&mut bytes[count..]) {
-            Ok(0) => break 'turns,
-            Ok(more) => count += more,
-            Err(error) => {
-                if error.kind() != io::ErrorKind::Interrupted {
-                    return Err(error);
-                }
-            }
-        }
+        count += more;
     }
     Ok(count)
 }
 
-// A record of size 7 has 1,588 bytes; one more shows that a record is longer.
-fn main(rt: HostRuntime) -> io::Result<()> {
+// The program over any reader and writer: where the bytes to come are known and the writer tells what
+// it holds, it then holds their listing too. A record of size 7 has 1,588 bytes; one more shows that a
+// record is longer.
+fn write_listing<R: Read, W: Write>(reader: &mut R, writer: &mut W) -> io::Result<()>
+    ensures { OnOk result (IfSome (R.remaining reader.old) (λ there.
+        Appends (W.contents writer.old) (W.contents writer.new) (listing_of (take 1589 there)))) }
+{
     let mut bytes = [0u8; 1589];
-    let length = read_full(&mut rt.reader(), &mut bytes)?;
+    let length = read_full(reader, &mut bytes)?;
     let mut text = [0u8; 191622];
     let end = list(&bytes[..length], &mut text);
-    io::writer(&rt).write_all(&text[..end])
+    writer.write_all(&text[..end])
+}
+
+fn main(rt: HostRuntime) -> io::Result<()> {
+    write_listing(&mut rt.reader(), &mut io::writer(&rt))
 }
