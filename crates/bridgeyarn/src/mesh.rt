@@ -1,7 +1,7 @@
 // The writer and the reader of mesh records.
 ghost use Rattle.std.specs.Prelude.{◌≡◌};
 ghost use Rattle.mesh_read.specs.Reading.{reading};
-ghost use Rattle.mesh_read.specs.Reading.{left as Reading·left};
+ghost use Rattle.mesh_read.specs.Reading.{left as reading_left};
 ghost use Rattle.mesh_write.specs.Writing.{mesh_of, left, writing};
 
 use mesh_read::ReadAnswer;
@@ -30,7 +30,7 @@ pub extern "C" fn bridgeyarn_mesh_read(
     coordinates: &mut [f32],
     indices: &mut [u32],
 ) -> ReadAnswer
-    ensures { Reading·left result coordinates.new indices.new
+    ensures { reading_left result coordinates.new indices.new
         ≡ reading bytes.now coordinates.old indices.old }
 {
     mesh_read::read_mesh(bytes, coordinates, indices)

@@ -7,7 +7,7 @@
 ghost use Rattle.std.specs.Prelude.{◌≡◌, ◌+◌, ◌<◌, ◌≤◌, length};
 ghost use Rattle.listing_words.specs.Put.{Put};
 ghost use Rattle.listing_words.specs.Digits.{digits, places_within, number_word, float_word};
-ghost use Rattle.listing_words.specs.Digits.{glyph as Digits·glyph};
+ghost use Rattle.listing_words.specs.Digits.{glyph as digits_glyph};
 
 use little_endian::bits_of;
 
@@ -26,7 +26,7 @@ pub fn put_bytes(text: &mut [u8], at: usize, piece: &[u8]) -> usize
 
 fn glyph(digit: u64) -> u8
     requires { digit < 16 }
-    ensures { result ≡ Digits·glyph digit }
+    ensures { result ≡ digits_glyph digit }
 {
     if digit < 10 {
         48 + digit as u8

@@ -27,14 +27,14 @@ use Rattle.sample_check.specs.Samples.{lowest_bad}
 use Rattle.sample_check.proofs.Samples.{any_bad-lowest_bad, any_bad-none-good}
 use Rattle.outcome.specs.declared.Answer.{Answer}
 use Rattle.outcome.specs.Outcome.{Outcome, Surface, surface, surface_of, work_room, over, refused, meshed, filled, outcome}
-use Rattle.outcome.specs.Outcome.{left as Outcome·left}
+use Rattle.outcome.specs.Outcome.{left as outcome_left}
 use Rattle.marching_cubes.proofs.ByCause.{accepted, room-enough}
 use Rattle.marching_cubes.proofs.Demands.{demand-3}
 use Rattle.mesh_record.specs.Mesh.{Mesh, vertex_count, record_bytes, Good}
 use Rattle.mesh_record.specs.Refusals.{none}
 use Rattle.mesh_checks.specs.Reading.{mesh_in}
 use Rattle.mesh_read.specs.Reading.{reading}
-use Rattle.mesh_read.specs.Reading.{left as Reading·left}
+use Rattle.mesh_read.specs.Reading.{left as reading_left}
 use Rattle.mesh_record.proofs.Passed.{neither_left, neither_right}
 use Rattle.mesh_write.specs.Writing.{mesh_of, refusal_of, Written, writing}
 use Rattle.mesh_round_trip.proofs.FiniteBits.{number, Floats, bits_small, bits-finite}
@@ -209,7 +209,7 @@ module _ (n numbering : ℕ) (samples : List Float) (held : Floats samples) (wor
 -- are a good mesh, the writer does not refuse it, and its record holds it.
 module _ (n numbering : ℕ) (samples : List Float) (held : Floats samples) (work : List ℕ) (vertices : List Float) (indices : List ℕ)
     (answer : Answer) (work-left : List ℕ) (vertices-left : List Float) (indices-left : List ℕ)
-    (promise : Outcome·left answer work-left vertices-left indices-left ≡ outcome n numbering samples work vertices indices)
+    (promise : outcome_left answer work-left vertices-left indices-left ≡ outcome n numbering samples work vertices indices)
     (cause : answer.cause ≡ 0) where
   all_done : Done n numbering samples work vertices indices
   all_done = outcome-passed n numbering samples work vertices indices (sym (ap (λ (o : Outcome). o.answer.cause) promise) ∙ cause)
@@ -220,7 +220,7 @@ module _ (n numbering : ℕ) (samples : List Float) (held : Floats samples) (wor
   abbrev list_left : List ℕ
   list_left = take answer.indices indices-left
 
-  all_left : Outcome·left answer work-left vertices-left indices-left
+  all_left : outcome_left answer work-left vertices-left indices-left
       ≡ meshed n numbering samples work vertices indices 0 (surface_of n numbering samples)
       (over (floats_of (map (position_at n samples) (surface_of n numbering samples).made)) vertices) (over (surface_of n numbering samples).indices indices)
   all_left =
@@ -261,7 +261,7 @@ module _ (n numbering : ℕ) (samples : List Float) (held : Floats samples) (wor
       → length (take (3 * answer.vertices) vertices-left) ≤ length floats → length (take answer.indices indices-left) ≤ length words
       → let w = writing 1 (mesh_of n numbering (take (3 * answer.vertices) vertices-left) (take answer.indices indices-left)) out in
       reading (take w.answer.bytes w.out) floats words
-      ≡ Reading·left (record { cause = 0; size = n; numbering = numbering; place = 0; vertices = length (take (3 * answer.vertices) vertices-left) / 3; indices = length (take answer.indices indices-left) })
+      ≡ reading_left (record { cause = 0; size = n; numbering = numbering; place = 0; vertices = length (take (3 * answer.vertices) vertices-left) / 3; indices = length (take answer.indices indices-left) })
       (over (take (3 * answer.vertices) vertices-left) floats) (over (take answer.indices indices-left) words)
   extract-round-trip out floats words room vertex-room index-room =
       written_read 1 n numbering floats-left list_left out

@@ -17,7 +17,7 @@ use Rattle.mesh_record.specs.Mesh.{Mesh, vertex_count, record_bytes, Good}
 use Rattle.mesh_record.specs.Refusals.{none, opening, contents}
 use Rattle.mesh_checks.specs.Reading.{mesh_in, refusal_in}
 use Rattle.mesh_read.specs.Reading.{Read, refused, short, done, copied, reading}
-use Rattle.mesh_read.specs.Reading.{left as Reading·left}
+use Rattle.mesh_read.specs.Reading.{left as reading_left}
 use Rattle.mesh_record.proofs.Checks.{opening-passed}
 use Rattle.mesh_record.proofs.Passed.{part-passed, opening-known, contents-known}
 use Rattle.mesh_read.proofs.Copies.{copied-done, reading-passed}
@@ -124,7 +124,7 @@ module _ (version size numbering : ℕ) (coordinates : List Float) (indices out 
 
   pub written_read : (floats : List Float) (words : List ℕ) → length coordinates ≤ length floats → length indices ≤ length words
       → reading (take (writing version (mesh_of size numbering coordinates indices) out).answer.bytes (writing version (mesh_of size numbering coordinates indices) out).out) floats words
-      ≡ Reading·left (record { cause = 0; size = size; numbering = numbering; place = 0; vertices = length coordinates / 3; indices = length indices })
+      ≡ reading_left (record { cause = 0; size = size; numbering = numbering; place = 0; vertices = length coordinates / 3; indices = length indices })
       (over coordinates floats) (over indices words)
   written_read floats words room index-room =
       let few : length m.coordinates ≤ length floats = omega (arith, room, length-map coordinates (to_bits binary32)) in
@@ -132,7 +132,7 @@ module _ (version size numbering : ℕ) (coordinates : List Float) (indices out 
       ∙ sym (reading-passed (record_bytes m) floats words (ap (λ (r : Refusal). r.cause) (record-accepted m written-good)))
       ∙ ap (λ (k : Mesh). copied k floats words) (record-holds m written-good)
       ∙ sym (copied-done m floats words few index-room)
-      ∙ ap₂ (λ (k : ℕ) (l : List Float). Reading·left (record { cause = 0; size = size; numbering = numbering; place = 0; vertices = k / 3; indices = length indices })
+      ∙ ap₂ (λ (k : ℕ) (l : List Float). reading_left (record { cause = 0; size = size; numbering = numbering; place = 0; vertices = k / 3; indices = length indices })
       (over l floats) (over indices words)) (length-map coordinates (to_bits binary32)) (floats-of-bits coordinates held)
 
 -- ---- read, then written
@@ -141,24 +141,24 @@ module _ (version size numbering : ℕ) (coordinates : List Float) (indices out 
 pub record ReadRecord (bytes : List ℕ) (floats : List Float) (words : List ℕ) : Type 0 where
   pub accepted : (refusal_in bytes).cause ≡ 0
   pub read : reading bytes floats words
-      ≡ Reading·left (done (mesh_in bytes)) (over (map (of_bits binary32) (mesh_in bytes).coordinates) floats) (over (mesh_in bytes).indices words)
+      ≡ reading_left (done (mesh_in bytes)) (over (map (of_bits binary32) (mesh_in bytes).coordinates) floats) (over (mesh_in bytes).indices words)
 
 module _ (bytes : List ℕ) (floats : List Float) (words : List ℕ) where
   abbrev read-mesh : Mesh
   read-mesh = mesh_in bytes
 
   abbrev done-read : Read
-  done-read = Reading·left (done (mesh_in bytes)) (over (map (of_bits binary32) (mesh_in bytes).coordinates) floats) (over (mesh_in bytes).indices words)
+  done-read = reading_left (done (mesh_in bytes)) (over (map (of_bits binary32) (mesh_in bytes).coordinates) floats) (over (mesh_in bytes).indices words)
 
   abbrev few : Bool
   few = ltb (length floats) (length (mesh_in bytes).coordinates) || ltb (length words) (length (mesh_in bytes).indices)
 
-  copied-by : (b : Bool) → (cond b (Reading·left (short (mesh_in bytes)) floats words) done-read).answer.cause ≡ 0 → (b ≡ false)
+  copied-by : (b : Bool) → (cond b (reading_left (short (mesh_in bytes)) floats words) done-read).answer.cause ≡ 0 → (b ≡ false)
   copied-by true h = absurd (omega arith)
   copied-by false h = refl
 
   accepted-by : (b : Bool) → eqb (refusal_in bytes).cause 0 ≡ b
-      → (cond b (copied (mesh_in bytes) floats words) (Reading·left (refused (refusal_in bytes)) floats words)).answer.cause ≡ 0 → (b ≡ true)
+      → (cond b (copied (mesh_in bytes) floats words) (reading_left (refused (refusal_in bytes)) floats words)).answer.cause ≡ 0 → (b ≡ true)
   accepted-by true e h = refl
   accepted-by false e h = absurd (eqb-false (refusal_in bytes).cause 0 e h)
 
@@ -167,7 +167,7 @@ module _ (bytes : List ℕ) (floats : List Float) (words : List ℕ) where
   reading-done h =
       let passed = accepted-by (eqb (refusal_in bytes).cause 0) refl h in
       let roomy = copied-by few
-      (subst (λ (b : Bool). (cond b (copied (mesh_in bytes) floats words) (Reading·left (refused (refusal_in bytes)) floats words)).answer.cause ≡ 0) passed h) in
+      (subst (λ (b : Bool). (cond b (copied (mesh_in bytes) floats words) (reading_left (refused (refusal_in bytes)) floats words)).answer.cause ≡ 0) passed h) in
       record { accepted = eqb-true (refusal_in bytes).cause 0 passed; read = rw (passed, roomy) }
 
 -- An accepted record written again, from what the reader left, gives the same bytes.
@@ -216,7 +216,7 @@ unfolding reading copied
 read-unchanged bytes floats words = by (eqb (refusal_in bytes).cause 0) (few bytes floats words)
   where
     by : (passed short-of-room : Bool)
-        → let r = cond passed (cond short-of-room (Reading·left (short (mesh_in bytes)) floats words) (done-read bytes floats words)) (Reading·left (refused (refusal_in bytes)) floats words) in
+        → let r = cond passed (cond short-of-room (reading_left (short (mesh_in bytes)) floats words) (done-read bytes floats words)) (reading_left (refused (refusal_in bytes)) floats words) in
         (r.answer.cause ≡ 0 → ⊥) → (r.coordinates ≡ floats) × (r.indices ≡ words)
     by true true h = (refl, refl)
     by true false h = absurd (h refl)

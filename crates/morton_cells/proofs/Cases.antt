@@ -9,7 +9,7 @@ use lib.Ieee.{Float, fin}
 use Rattle.morton.specs.declared.Number.{Number}
 use Rattle.morton.specs.declared.Number.TheVariants as number
 use Rattle.morton_cells.specs.declared.Length.{Length}
-use Rattle.morton_cells.specs.declared.Length.TheVariants as length
+use Rattle.morton_cells.specs.declared.Length.TheVariants as lengths
 use Rattle.morton_cells.specs.declared.Point.{Point}
 use Rattle.morton_cells.specs.declared.Point.TheVariants as point
 use Rattle.morton.specs.Key.{top_bit, good, level_in}
@@ -67,7 +67,7 @@ cases : map answer (
     is_number (number.Is 1) ∷
     is_number (number.Is 1) ∷
     is_point (point.At (record { x = quarter; y = quarter; z = quarter })) ∷
-    is_length (length.Is quarter) ∷
+    is_length (lengths.Is quarter) ∷
     is_number (number.Is 0) ∷
     is_number (number.Is 1) ∷
     is_number (number.Is 15) ∷

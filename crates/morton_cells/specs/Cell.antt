@@ -5,7 +5,7 @@ use Rattle.std.specs.Prelude.{false, cond, ℕ, ◌+◌, ◌*◌, ◌%◌, ◌^�
 use Rattle.std.specs.Float.{fin, binary32}
 use Rattle.std.specs.Float.Ieee.{of_bits}
 use Rattle.morton_cells.specs.declared.Length.{Length}
-use Rattle.morton_cells.specs.declared.Length.TheVariants as length
+use Rattle.morton_cells.specs.declared.Length.TheVariants as lengths
 use Rattle.morton_cells.specs.declared.Point.{Point}
 use Rattle.morton_cells.specs.declared.Point.TheVariants as point
 use Rattle.morton.specs.Key.{good, level_in}
@@ -16,7 +16,7 @@ abbrev pub half_size_at : ℕ → Float
 half_size_at level = fin false 1 (negsuc level)
 
 abbrev pub half_size_of : ℕ → Length
-half_size_of key = cond (good key) (length.Is (half_size_at (level_in key))) length.Refused
+half_size_of key = cond (good key) (lengths.Is (half_size_at (level_in key))) lengths.Refused
 
 -- (2b + 1) / 2 ^ (level + 1)
 abbrev pub center_at : ℕ → ℕ → Float
@@ -34,12 +34,12 @@ center_of key = cond (good key) (point.At (record { x = center_on X key; y = cen
 
 -- document 01's cause of an answer, and the value that it carries: zero where refused
 abbrev pub length_cause : Length → ℕ
-length_cause (length.Is value) = 0
-length_cause length.Refused = 9
+length_cause (lengths.Is value) = 0
+length_cause lengths.Refused = 9
 
 abbrev pub length_in : Length → Float
-length_in (length.Is value) = value
-length_in length.Refused = of_bits binary32 0
+length_in (lengths.Is value) = value
+length_in lengths.Refused = of_bits binary32 0
 
 abbrev pub point_cause : Point → ℕ
 point_cause (point.At p) = 0
