@@ -126,8 +126,8 @@ fn span_after(span: Span, z: usize, before: u32, after: u32) -> Span
 // The whole grid. The tables are made here and lent; the joined numbering leaves working memory alone.
 pub fn count_grid(numbering: u32, samples: &[f32], n: usize, work: &mut [u32]) -> Reach
     requires { (2 ≤ n) × (n ≤ 128) × (n * n * (n + 1) ≤ length samples.now) × (held_room n ≤ length work.old) }
-    ensures counts_value { held work.exit.now result.counts ≡ count_steps numbering n (inside_of n samples.now) n (record { work = work.entry.now; made = 0; written = 0 }) }
-    ensures grows_within { GrowsWithin (λ k. (count_steps numbering n (inside_of n samples.now) k (record { work = work.entry.now; made = 0; written = 0 })).written) n result.span }
+    ensures counts_value { held work.new result.counts ≡ count_steps numbering n (inside_of n samples.now) n (record { work = work.old; made = 0; written = 0 }) }
+    ensures grows_within { GrowsWithin (λ k. (count_steps numbering n (inside_of n samples.now) k (record { work = work.old; made = 0; written = 0 })).written) n result.span }
     ensures written_bound { (result.counts.written ≤ 31211520) × (result.counts.made ≤ result.counts.written) }
 {
     let news = packed_tables::new_words();

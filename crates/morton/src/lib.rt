@@ -59,6 +59,7 @@ pub fn parent(key: u64) -> Number
 }
 
 // The key of one of the eight cells in this one, of which there are none at the last level.
+#[tactic(auto, using(crate::proofs::Children::child_above))]
 pub fn child(key: u64, which: u32) -> Number
     ensures { result ≡ child_of key which }
 {

