@@ -2,11 +2,9 @@
 use Rattle.std.specs.Prelude.{List, [], ◌∷◌, ℕ, ◌+◌, ◌*◌, ◌≤◌, length, get_or}
 use Rattle.walk_models.specs.CacheMemory.{layer_place, row_place}
 
--- the layer and the row that are read, and room for the cache
-pub record CacheRoom (n layer row : ℕ) (work : List ℕ) : Type 0 where
+-- room for the cache
+pub record CacheRoom (n : ℕ) (work : List ℕ) : Type 0 where
   pub most : n ≤ 128
-  pub layer-le : layer ≤ 1
-  pub row-le : row ≤ 1
   pub room : 8 * (n * n) + 6 * n ≤ length work
 
 -- edges 0 to 3 from the layer, 4, 8 and 9 from the row

@@ -3,10 +3,19 @@
 
 #![tactic(auto)]
 
-ghost use Rattle.std.specs.Prelude.{◌≡◌, cond, ◌+◌, ◌-◌, ◌*◌, ◌^◌, ◌≤◌, ◌<◌, ltb, length, set};
+ghost use Rattle.std.specs.Prelude.{◌≡◌, Some, None, cond, ◌+◌, ◌-◌, ◌*◌, ◌^◌, ◌≤◌, ◌<◌, ltb, length, set};
 ghost use Rattle.walk.specs.Cache.{in_layer, put_column};
 ghost use Rattle.walk_models.specs.CacheMemory.{put_layer, put_row, clear_row};
 ghost use Rattle.index_cache.specs.Found.{CacheRoom, found_all};
+
+// The layer and the row of the cache that a cell reads, 0 or 1 each; it writes the others.
+#[derive(Clone, Copy)]
+pub struct Parity {
+    pub layer: usize,
+    pub row: usize,
+    pub ghost layer_le: { layer ≤ 1 },
+    pub ghost row_le: { row ≤ 1 },
+}
 
 // Where the four words of the place (x, y) in a layer begin.
 fn layer_place(n: usize, x: usize, y: usize, layer: usize) -> usize
@@ -24,15 +33,15 @@ fn row_place(n: usize, x: usize, row: usize) -> usize
     8 * (n * n) + 6 * x + 3 * row
 }
 
-// The column of `rows` that `put` writes for an edge; 3 where there is none.
-fn put_column(edge: usize) -> usize
-    ensures { (result ≡ put_column edge) × (result ≤ 3) }
+// The column of `rows` that `put` writes for an edge, if any.
+fn put_column(edge: usize) -> Option<usize>
+    ensures { result ≡ cond (ltb (put_column edge) 3) (Some (put_column edge)) None }
 {
     match edge {
-        6 => 0,
-        11 => 1,
-        10 => 2,
-        _ => 3,
+        6 => Some(0),
+        11 => Some(1),
+        10 => Some(2),
+        _ => None,
     }
 }
 
@@ -41,52 +50,39 @@ fn put_layer(work: &mut [u32], at: usize, edge: usize, index: u32)
     requires { (at + 4 ≤ length work.old) × (at < 2 ^ 32) }
     ensures { work.new ≡ cond (in_layer edge) (set work.old (at + (edge - 4)) index) work.old }
 {
-    if edge < 4 {
-        return;
+    if let 4..=7 = edge {
+        work[at + (edge - 4)] = index;
     }
-    if 7 < edge {
-        return;
-    }
-    work[at + (edge - 4)] = index;
 }
 
 // The three words of a place in a row begin at `at`.
-fn put_row(work: &mut [u32], at: usize, column: usize, index: u32)
+fn put_row(work: &mut [u32], at: usize, edge: usize, index: u32)
     requires { (at + 3 ≤ length work.old) × (at < 2 ^ 32) }
-    ensures { work.new ≡ cond (ltb column 3) (set work.old (at + column) index) work.old }
+    ensures { work.new ≡ cond (ltb (put_column edge) 3) (set work.old (at + put_column edge) index) work.old }
 {
-    if column < 3 {
+    if let Some(column) = put_column(edge) {
         work[at + column] = index;
     }
 }
 
 // `put`, but for `current_cell`: into the layer and the row that are not read.
-pub fn put(
-    work: &mut [u32],
-    n: usize,
-    x: usize,
-    y: usize,
-    layer: usize,
-    row: usize,
-    edge: usize,
-    index: u32,
-)
-    requires cache_room { CacheRoom n layer row work.old }
+pub fn put(work: &mut [u32], n: usize, x: usize, y: usize, parity: Parity, edge: usize, index: u32)
+    requires cache_room { CacheRoom n work.old }
     requires x_lt_n { (x < n) × (y < n) }
-    ensures { work.new ≡ put_row n (1 - row) x edge index (put_layer n (1 - layer) x y edge index work.old) }
+    ensures { work.new ≡ put_row n (1 - parity.row) x edge index (put_layer n (1 - parity.layer) x y edge index work.old) }
 {
-    put_layer(work, layer_place(n, x, y, 1 - layer), edge, index);
-    put_row(work, row_place(n, x, 1 - row), put_column(edge), index);
+    put_layer(work, layer_place(n, x, y, 1 - parity.layer), edge, index);
+    put_row(work, row_place(n, x, 1 - parity.row), edge, index);
 }
 
 // What `get` finds for each edge before it turns to `current_cell`.
-pub fn found(work: &[u32], n: usize, x: usize, y: usize, layer: usize, row: usize) -> [u32; 12]
-    requires cache_room { CacheRoom n layer row work.now }
+pub fn found(work: &[u32], n: usize, x: usize, y: usize, parity: Parity) -> [u32; 12]
+    requires cache_room { CacheRoom n work.now }
     requires x_lt_n { (x < n) × (y < n) }
-    ensures { result ≡ found_all n x y layer row work.now }
+    ensures { result ≡ found_all n x y parity.layer parity.row work.now }
 {
-    let a = layer_place(n, x, y, layer);
-    let b = row_place(n, x, row);
+    let a = layer_place(n, x, y, parity.layer);
+    let b = row_place(n, x, parity.row);
     [
         work[a],
         work[a + 1],
@@ -117,9 +113,7 @@ pub fn clear_row(work: &mut [u32], n: usize, row: usize)
     requires { (n ≤ 128) × (row ≤ 1) × (8 * (n * n) + 6 * n ≤ length work.old) }
     ensures { work.new ≡ clear_row n row n work.old }
 {
-    let mut x: usize = 0;
-    while x < n {
+    for x in 0..n {
         clear_three(work, row_place(n, x, row));
-        x += 1;
     }
 }

@@ -8,6 +8,7 @@ use Rattle.walk.specs.Walk.{Visit}
 use Rattle.walk_models.specs.Lent.{Lent}
 use Rattle.lent_mesh.specs.declared.Counts.{Counts}
 use Rattle.lent_mesh.specs.Grid.{position_at}
+pub use Rattle.lent_mesh.specs.Cell.{CellOf, Coordinates}
 
 -- the three floats of vertex k, where there is room for all three
 unfoldable pub put_point : List Float → ℕ → Vertex → List Float
@@ -22,16 +23,3 @@ store_at n samples v k floats = put_point floats k (position_at n samples v)
 abbrev pub in_hand : {D : Type 0} → D → List Float → List ℕ → Counts → Lent D (List Float)
 in_hand memory vertices indices counts =
     record { memory = memory; vertices = vertices; indices = indices; made = counts.made; written = counts.written }
-
--- the cell (x, y, z) is one of the grid's: its corners are samples
-pub record CellOf (samples : List Float) (n x y z : ℕ) : Type 0 where
-  pub least : 2 ≤ n
-  pub most : n ≤ 128
-  pub in-x : x + 1 < n
-  pub in-y : y + 1 < n
-  pub in-z : z < n
-  pub planes : n * n * (z + 2) ≤ length samples
-
--- the coordinates 0 to n of the grid, each worked out once
-abbrev pub Coordinates : ℕ → List Float → Type 0
-Coordinates n l = (i : ℕ) → i ≤ n → get_or l i nan ≡ corner_of i (step_of n)

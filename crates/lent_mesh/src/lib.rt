@@ -4,18 +4,17 @@
 
 #![tactic(auto)]
 
-ghost use Rattle.std.specs.Prelude.{◌≡◌, ℕ, ◌+◌, ◌*◌, ◌/◌, ◌%◌, ◌^◌, ◌≤◌, ◌<◌, length, set};
-ghost use Rattle.positions.specs.Position.{sample_at};
-ghost use Rattle.lent_mesh.specs.Grid.{position_at};
-ghost use Rattle.lent_mesh.specs.Stored.{put_point, CellOf, Coordinates};
+pub mod cell;
 
-use marching_cubes_impl::vertex::Vertex;
+ghost use Rattle.std.specs.Prelude.{◌≡◌, ◌+◌, ◌^◌, ◌≤◌, ◌<◌, length, set};
+ghost use Rattle.lent_mesh.specs.Stored.{Coordinates};
 
-// How many vertices and indices a run has come to.
+// How many vertices and indices a run has come to after a cell: each vertex was made for an index.
 #[derive(Clone, Copy)]
 pub struct Counts {
     pub made: u32,
     pub written: u32,
+    pub ghost ordered: { made ≤ written },
 }
 
 // The coordinates 0 to n of a grid of size n, to be made once and lent.
@@ -25,98 +24,10 @@ pub fn coordinates(n: usize) -> [f32; 129]
 {
     let step = positions::step(n as u32);
     let mut all = [0.0f32; 129];
-    let mut i: usize = 0;
-    while i <= n {
+    for i in 0..n + 1 {
         all[i] = positions::corner_coordinate(i as u32, step);
-        i += 1;
     }
     all
-}
-
-// How far the end of an edge lies from its cell's corner 0 along one axis: `offsets` has a bit for
-// each edge.
-fn offset(offsets: usize, edge: usize) -> usize
-    requires { (edge < 12) × (offsets < 4096) }
-    ensures { (result ≡ offsets / 2 ^ edge % 2) × (result ≤ 1) }
-{
-    (offsets >> edge) % 2
-}
-
-fn sample(samples: &[f32], n: usize, x: usize, y: usize, z: usize) -> f32
-    requires { (n ≤ 128) × (x < n) × (y < n) × (z ≤ n) × (n * n * (z + 1) ≤ length samples.now) }
-    ensures { result ≡ sample_at n samples.now (record { x = x; y = y; z = z }) }
-{
-    samples[(z * n + y) * n + x]
-}
-
-// The vertex on an edge of the cell (x, y, z). Bit e of the six constants is CORNERS at the first or
-// second corner that EDGE_CONNECTION has for edge e, along x, y or z.
-pub fn vertex_on(
-    samples: &[f32],
-    coordinates: &[f32; 129],
-    n: usize,
-    x: usize,
-    y: usize,
-    z: usize,
-    edge: usize,
-) -> Vertex
-    requires cell_of { CellOf samples.now n x y z }
-    requires edge_bound { (edge < 12) × Coordinates n coordinates.now }
-    ensures { result ≡ position_at n samples.now (record { x = x; y = y; z = z; edge = edge }) }
-{
-    let x0 = x + offset(0x666, edge);
-    let y0 = y + offset(0xCCC, edge);
-    let z0 = z + offset(0x0F0, edge);
-    let x1 = x + offset(0x633, edge);
-    let y1 = y + offset(0xC66, edge);
-    let z1 = z + offset(0xFF0, edge);
-    let from = Vertex {
-        x: coordinates[x0],
-        y: coordinates[y0],
-        z: coordinates[z0],
-    };
-    let to = Vertex {
-        x: coordinates[x1],
-        y: coordinates[y1],
-        z: coordinates[z1],
-    };
-    let a = sample(samples, n, x0, y0, z0);
-    let b = sample(samples, n, x1, y1, z1);
-    positions::position(from, to, a, b)
-}
-
-// Three floats of vertex number `number`.
-fn store(vertices: &mut [f32], at: usize, p: Vertex)
-    requires { at + 2 < length vertices.old }
-    ensures { vertices.new ≡ set (set (set vertices.old at p.x) (at + 1) p.y) (at + 2) p.z }
-{
-    vertices[at] = p.x;
-    vertices[at + 1] = p.y;
-    vertices[at + 2] = p.z;
-}
-
-// The vertex on an edge of the cell (x, y, z) is put at its number, where there is room for it; where
-// there is none it is not worked out.
-pub fn put_vertex(
-    samples: &[f32],
-    coordinates: &[f32; 129],
-    n: usize,
-    x: usize,
-    y: usize,
-    z: usize,
-    edge: usize,
-    vertices: &mut [f32],
-    number: u32,
-)
-    requires cell_of { CellOf samples.now n x y z }
-    requires edge_bound { (edge < 12) × Coordinates n coordinates.now }
-    ensures { vertices.new ≡ put_point vertices.old number (position_at n samples.now (record { x = x; y = y; z = z; edge = edge })) }
-{
-    let at = 3 * (number as usize);
-    if at + 2 < vertices.len() {
-        let p = vertex_on(samples, coordinates, n, x, y, z, edge);
-        store(vertices, at, p);
-    }
 }
 
 // An index is put at its place, where there is room for it.
