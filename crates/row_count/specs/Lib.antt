@@ -1,2 +1,2 @@
-pub mod Countable
 pub mod Steps
+pub mod IdleCells

@@ -1,144 +1,104 @@
-// The count of a row of cells in either numbering. Cells whose corners are all alike add nothing and are passed over.
-// A cell of the crate numbering is counted by the edges that are held in working memory, one of the joined
-// numbering by its packed word.
+// The steps of the two numberings that count and leave the outputs as they are. A cell of the crate numbering is
+// counted by the edges that are held in working memory, one of the joined numbering by its packed word, and a layer of
+// the joined numbering above the lowest word by word.
 
 #![tactic(auto)]
 
-ghost use Rattle.std.specs.Prelude.{◌≡◌, ◌+◌, ◌-◌, ◌*◌, ◌≤◌, ◌<◌};
-ghost use Rattle.walk.specs.Walk.{Inside, signs, times};
-ghost use Rattle.walk_models.specs.Owned.{cells_of_row};
-ghost use Rattle.lent_mesh.specs.Grid.{inside_of};
-ghost use Rattle.sign_words.specs.Words.{LayerWords};
-ghost use Rattle.sign_cells.specs.Cells.{QuadOf, cells_in, active_word};
-ghost use Rattle.joined_slots.specs.OneCell.{class_of};
+ghost use Rattle.std.specs.Prelude.{◌≡◌, suc, ⊤};
+ghost use Rattle.packed_tables.specs.Packed.{new_words};
 ghost use Rattle.row_walk.specs.Steps.{row_parity};
-ghost use Rattle.held_bits.specs.HeldCell.{held};
-ghost use Rattle.row_count.specs.Countable.{Tables, RowIn, Countable};
-ghost use Rattle.row_count.specs.Steps.{count_step};
+ghost use Rattle.held_bits.specs.Names.{name_words};
+ghost use Rattle.held_bits.specs.HeldCell.{held_room, clear_held};
+ghost use Rattle.row_count.specs.Steps.{counting};
+ghost use Rattle.row_count.specs.IdleCells.{counting-idle};
 
+use layer_tally::CellMasks;
 use lent_mesh::Counts;
-use sign_cells::Quad;
+use row_walk::CellStep;
+use row_walk::layer::{Crossed, Layer};
 
-// One cell in the numbering asked for. Its case is its sign byte, the class that of its row's cells but
-// the first, and `row` the cache row that is read.
-fn count_cell(
-    numbering: u32,
-    news: &[u64; 2048],
-    names: &[u32; 256],
-    n: usize,
-    x: usize,
-    y: usize,
-    z: usize,
-    case: usize,
-    class: usize,
-    row: usize,
-    work: &mut [u32],
-    counts: Counts,
-) -> Counts
-    requires tables { Tables news.now names.now }
-    requires row_in { RowIn n y × (x + 1 < n) × (case < 256) }
-    requires class_value { (class ≡ class_of 1 y z) × (class ≤ 6) × (row ≡ row_parity n z y) }
-    requires countable { Countable n work.old 15 counts }
-    ensures result_after { (g : Inside) → case ≡ signs g x y z → held work.new result ≡ count_step numbering n g z y x (held work.old counts) }
-    ensures written_bound { (result.written ≤ counts.written + 15) × (result.made ≤ result.written) }
-{
-    if numbering == 0 {
-        held_bits::held_cell(names, n, x, y, case, z % 2, row, work, counts)
-    } else {
-        let here = joined_slots::class_at(class, x);
-        joined_edges::joined_counts(news, case, here, counts)
-    }
+// The crate numbering, by a table that is made once and lent.
+#[derive(Clone, Copy)]
+pub struct CrateCount<'a> {
+    pub names: &'a [u32; 256],
+    pub ghost names_are: { names.now ≡ name_words },
 }
 
-// The cells of word k of row y that the mask has a bit for, from the lowest. The samples are not read:
-// their signs are in the four words. The two counts are variables of their own, so that one need not
-// wait for the other.
-fn count_word(
-    numbering: u32,
-    news: &[u64; 2048],
-    names: &[u32; 256],
-    samples: &[f32],
-    n: usize,
-    y: usize,
-    z: usize,
-    k: usize,
-    quad: Quad,
-    mask: u32,
-    class: usize,
-    row: usize,
-    work: &mut [u32],
-    counts: Counts,
-) -> Counts
-    requires tables { Tables news.now names.now }
-    requires row_in { RowIn n y × QuadOf n samples.now y z k quad × (mask ≡ active_word n samples.now y z k) × (32 * k < n - 1) }
-    requires class_value { (class ≡ class_of 1 y z) × (class ≤ 6) × (row ≡ row_parity n z y) }
-    requires countable { Countable n work.old 480 counts }
-    ensures result_after { held work.new result ≡ times (cells_in n k) (λ i t. count_step numbering n (inside_of n samples.now) z y (32 * k + i) t) (held work.old counts) }
-    ensures written_bound { (result.written ≤ counts.written + 480) × (result.made ≤ result.written) }
-{
-    let mut made = counts.made;
-    let mut written = counts.written;
-    let mut rest = mask;
-    while rest != 0 {
-        let i = u32::trailing_zeros(rest);
-        let x = 32 * k + (i as usize);
-        let case = sign_cells::case_of(quad, i);
-        let next = count_cell(
-            numbering,
-            news,
-            names,
-            n,
-            x,
-            y,
-            z,
-            case,
-            class,
-            row,
+// The joined numbering, by another and by the masks of a size.
+#[derive(Clone, Copy)]
+pub struct JoinedCount<'a> {
+    pub news: &'a [u64; 2048],
+    pub masks: &'a CellMasks,
+    pub ghost news_are: { news.now ≡ new_words },
+}
+
+impl CellStep for CrateCount<'_> {
+    ghost step = { counting 0 };
+
+    ghost ended = { λ n z w. clear_held n (row_parity n (suc z) 0) n w };
+
+    ghost room = { held_room };
+
+    ghost made_for = { λ s n. ⊤ };
+
+    ghost ready = { λ s n z. ⊤ };
+
+    fn at_layer(&self, n: usize, z: usize) -> Self {
+        *self
+    }
+
+    fn cell(&self, here: Crossed, work: &mut [u32], vertices: &mut [f32], indices: &mut [u32], counts: Counts) -> Counts {
+        let row = here.row;
+        held_bits::held_cell(
+            self.names,
+            row.layer.n,
+            here.x,
+            row.y,
+            here.case,
+            row.parity,
             work,
-            Counts { made, written },
-        );
-        made = next.made;
-        written = next.written;
-        rest = rest & (rest - 1);
+            counts,
+        )
     }
-    Counts { made, written }
+
+    fn whole_layer(&self, layer: Layer, counts: Counts) -> Option<Counts> {
+        None
+    }
+
+    fn end_layer(&self, n: usize, row: usize, work: &mut [u32]) {
+        held_bits::clear_held(work, n, row);
+    }
+
+    ghost idle = { counting-idle 0 };
 }
 
-// Row y of layer z, between the sign words of the sample layers z and z + 1.
-pub fn count_row(
-    numbering: u32,
-    news: &[u64; 2048],
-    names: &[u32; 256],
-    low: &[u32; 513],
-    high: &[u32; 513],
-    samples: &[f32],
-    n: usize,
-    y: usize,
-    z: usize,
-    row: usize,
-    work: &mut [u32],
-    counts: Counts,
-) -> Counts
-    requires tables { Tables news.now names.now }
-    requires row_in { RowIn n y × (row ≡ row_parity n z y) }
-    requires layer_words { LayerWords n samples.now z low.now × LayerWords n samples.now (z + 1) high.now }
-    requires countable { Countable n work.old 1920 counts }
-    ensures result_after { held work.new result ≡ cells_of_row (count_step numbering n (inside_of n samples.now)) n z y (n - 1) (held work.old counts) }
-    ensures written_bound { (result.written ≤ counts.written + 1920) × (result.made ≤ result.written) }
-{
-    if sign_cells::outside(low, high, y) {
-        return counts;
+impl CellStep for JoinedCount<'_> {
+    ghost step = { counting 1 };
+
+    ghost ended = { λ n z w. w };
+
+    ghost room = { λ n. 0 };
+
+    ghost made_for = { λ s n. s.masks.now.n ≡ n };
+
+    ghost ready = { λ s n z. ⊤ };
+
+    fn at_layer(&self, n: usize, z: usize) -> Self {
+        *self
     }
-    let class = joined_slots::class_of_row(y, z);
-    let mut reached = counts;
-    let mut k: usize = 0;
-    while 32 * k < n - 1 {
-        let quad = sign_cells::quad_at(low, high, y, k);
-        let mask = sign_cells::active(quad, n, k);
-        reached = count_word(
-            numbering, news, names, samples, n, y, z, k, quad, mask, class, row, work, reached,
-        );
-        k += 1;
+
+    fn cell(&self, here: Crossed, work: &mut [u32], vertices: &mut [f32], indices: &mut [u32], counts: Counts) -> Counts {
+        joined_edges::joined_counts(self.news, here.case, here.class, counts)
     }
-    reached
+
+    fn whole_layer(&self, layer: Layer, counts: Counts) -> Option<Counts> {
+        if layer.z > 0 {
+            return Some(layer_tally::tally_layer(self.masks, layer.words, counts));
+        }
+        None
+    }
+
+    fn end_layer(&self, n: usize, row: usize, work: &mut [u32]) {}
+
+    ghost idle = { counting-idle 1 };
 }

@@ -1,2 +1,2 @@
-pub mod OneCell
 pub mod WordLoop
+pub mod OneCell

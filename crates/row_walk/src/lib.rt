@@ -1,217 +1,123 @@
-// The walk along one row of cells over lent memory, for either numbering: words of 32 cells, and the cells of a
-// word that the surface crosses. A cell with all corners alike visits nothing and is passed over.
+// The walk along one row of cells: words of 32 cells, and the cells of a word that the surface crosses. A cell with
+// all corners alike does nothing and is passed over. What another cell does is a type's, a `CellStep`: there is one for
+// each numbering, to fill and to count.
 
 #![tactic(auto)]
 
-ghost use Rattle.std.specs.Prelude.{◌≡◌, ◌+◌, ◌-◌, ◌*◌, ◌≤◌, ◌<◌};
-ghost use Rattle.walk.specs.Walk.{signs, times};
+pub mod fill;
+pub mod layer;
+
+ghost use Rattle.std.specs.Prelude.{◌≡◌, List, ℕ, ◌+◌, ◌-◌, ◌*◌, ◌/◌, ◌^◌, ◌≤◌, ◌<◌, length, IfSome, Float};
+ghost use Rattle.walk.specs.Walk.{times};
 ghost use Rattle.walk_models.specs.Owned.{cells_of_row};
-ghost use Rattle.lent_mesh.specs.Grid.{inside_of};
-ghost use Rattle.lent_mesh.specs.Stored.{in_hand, CellOf};
-ghost use Rattle.sign_words.specs.Words.{LayerWords};
-ghost use Rattle.sign_cells.specs.Cells.{QuadOf, cells_in, active_word};
-ghost use Rattle.joined_slots.specs.OneCell.{class_of};
-ghost use Rattle.row_walk.specs.Steps.{row_parity, cell_step};
-ghost use Rattle.row_walk.specs.Ready.{Tables, RowOf, Room};
+ghost use Rattle.lent_mesh.specs.Stored.{in_hand};
+ghost use Rattle.sign_cells.specs.Cells.{cells_in};
+ghost use Rattle.row_walk.specs.Steps.{Hand, row_parity, PassesOver, WholeLayer};
 
+use layer::{Crossed, Layer, Row, Word};
 use lent_mesh::Counts;
-use sign_cells::Quad;
 
-// One cell in the numbering asked for.
-fn one_cell(
-    numbering: u32,
-    rows: &[u64; 256],
-    regulars: &[u64; 256],
-    news: &[u64; 2048],
-    coordinates: &[f32; 129],
-    slots: &[usize; 12],
-    samples: &[f32],
-    n: usize,
-    x: usize,
-    y: usize,
-    z: usize,
-    case: usize,
-    class: usize,
-    dense: bool,
-    row: usize,
-    work: &mut [u32],
-    vertices: &mut [f32],
-    indices: &mut [u32],
-    counts: Counts,
-) -> Counts
-    requires tables { Tables n z rows.now regulars.now news.now coordinates.now slots.now }
-    requires cell_of { CellOf samples.now n x y z }
-    requires case_value { (case ≡ signs (inside_of n samples.now) x y z) × (class ≡ class_of x y z) × (row ≡ row_parity n z y) }
-    requires room { Room n work.old 15 counts }
-    ensures result_after { in_hand work.new vertices.new indices.new result
-        ≡ cell_step numbering n samples.now z y x (in_hand work.old vertices.old indices.old counts) }
-    ensures written_bound { (result.written ≤ counts.written + 15) × (result.made ≤ result.written) }
-{
-    if numbering == 0 {
-        crate_cells::crate_cell(
-            rows,
-            regulars,
-            samples,
-            coordinates,
-            n,
-            x,
-            y,
-            z,
-            case,
-            z % 2,
-            row,
-            work,
-            vertices,
-            indices,
-            counts,
-        )
-    } else {
-        joined_edges::joined_cell(
-            rows,
-            news,
-            samples,
-            coordinates,
-            slots,
-            n,
-            x,
-            y,
-            z,
-            case,
-            class,
-            dense,
-            work,
-            vertices,
-            indices,
-            counts,
-        )
-    }
+pub trait CellStep: Copy {
+    // What the cell (x, y, z) of a grid of n samples to a side does to what is lent: `step n samples z y x`.
+    ghost step: { ℕ → List Float → ℕ → ℕ → ℕ → Hand → Hand };
+
+    // What becomes of the working memory after the last row of layer z: `ended n z`.
+    ghost ended: { ℕ → ℕ → List ℕ → List ℕ };
+
+    // The words of working memory that a size asks for.
+    ghost room: { ℕ → ℕ };
+
+    // What is lent was made for a size, and what it keeps for a layer.
+    ghost made_for: { Self → ℕ → Type 0 };
+
+    ghost ready: { Self → ℕ → ℕ → Type 0 };
+
+    // Ready for the cells of layer z.
+    fn at_layer(&self, n: usize, z: usize) -> Self
+        requires { (n ≤ 128) × made_for self.now n }
+        ensures { ready result n z };
+
+    fn cell(&self, here: Crossed, work: &mut [u32], vertices: &mut [f32], indices: &mut [u32], counts: Counts) -> Counts
+        requires ready { ready self.now here.row.layer.n here.row.layer.z }
+        requires room { (room here.row.layer.n ≤ length work.old) × (counts.written + 15 < 2 ^ 32) }
+        ensures result_after { in_hand work.new vertices.new indices.new result
+            ≡ step here.entry.row.layer.n here.entry.row.layer.samples.now here.entry.row.layer.z here.entry.row.y here.entry.x (in_hand work.old vertices.old indices.old counts) }
+        ensures written_bound { result.written ≤ counts.written + 15 };
+
+    // What all cells of a layer come to, where that is known without a look at them.
+    fn whole_layer(&self, layer: Layer, counts: Counts) -> Option<Counts>
+        requires { made_for self.now layer.n × (counts.written + 243840 < 2 ^ 32) }
+        ensures { IfSome result (WholeLayer step layer.entry.n layer.entry.samples.now layer.entry.z counts) };
+
+    // After the last row of a layer; `row` is the cache row that is read next.
+    fn end_layer(&self, n: usize, row: usize, work: &mut [u32])
+        requires { (n ≤ 128) × (row ≤ 1) × (room n ≤ length work.old) }
+        ensures { (z : ℕ) → row ≡ row_parity n (z + 1) 0 → work.new ≡ ended n z work.old };
+
+    ghost idle: { PassesOver step };
 }
 
-// The cells of word k of row y that the mask has a bit for, from the lowest. Where nearly all have one the
-// word is dense.
-fn word_cells(
-    numbering: u32,
-    rows: &[u64; 256],
-    regulars: &[u64; 256],
-    news: &[u64; 2048],
-    coordinates: &[f32; 129],
-    slots: &[usize; 12],
-    samples: &[f32],
-    n: usize,
-    y: usize,
-    z: usize,
-    k: usize,
-    quad: Quad,
-    mask: u32,
-    class: usize,
-    row: usize,
+// The cells of a word that the surface crosses, from the lowest. The two counts are variables of their own, so that
+// one need not wait for the other. The bits are taken by hand, for an iterator over them would be this same loop.
+fn word_cells<S: CellStep>(
+    step: &S,
+    word: Word,
     work: &mut [u32],
     vertices: &mut [f32],
     indices: &mut [u32],
     counts: Counts,
 ) -> Counts
-    requires tables { Tables n z rows.now regulars.now news.now coordinates.now slots.now }
-    requires row_of { RowOf samples.now n y z }
-    requires quad_of { QuadOf n samples.now y z k quad × (mask ≡ active_word n samples.now y z k) × (32 * k < n - 1) }
-    requires class_value { (class ≡ class_of 1 y z) × (class ≤ 6) × (row ≡ row_parity n z y) }
-    requires room { Room n work.old 480 counts }
+    requires ready { S.ready step.now word.row.layer.n word.row.layer.z }
+    requires room { (S.room word.row.layer.n ≤ length work.old) × (counts.written + 480 < 2 ^ 32) }
     ensures result_after { in_hand work.new vertices.new indices.new result
-        ≡ times (cells_in n k) (λ i t. cell_step numbering n samples.now z y (32 * k + i) t) (in_hand work.old vertices.old indices.old counts) }
-    ensures written_bound { (result.written ≤ counts.written + 480) × (result.made ≤ result.written) }
+        ≡ times (cells_in word.entry.row.layer.n word.entry.k) (λ i t. S.step word.entry.row.layer.n word.entry.row.layer.samples.now word.entry.row.layer.z word.entry.row.y (32 * word.entry.k + i) t) (in_hand work.old vertices.old indices.old counts) }
+    ensures written_bound { result.written ≤ counts.written + 480 }
 {
+    let mask = word.quad.active(word.row.layer.n, word.k);
     let dense = u32::count_ones(mask) > 27;
-    let mut reached = counts;
+    let mut made = counts.made;
+    let mut written = counts.written;
     let mut rest = mask;
     while rest != 0 {
-        let i = u32::trailing_zeros(rest);
-        let x = 32 * k + (i as usize);
-        let case = sign_cells::case_of(quad, i);
-        let here = joined_slots::class_at(class, x);
-        reached = one_cell(
-            numbering,
-            rows,
-            regulars,
-            news,
-            coordinates,
-            slots,
-            samples,
-            n,
-            x,
-            y,
-            z,
-            case,
-            here,
-            dense,
-            row,
-            work,
-            vertices,
-            indices,
-            reached,
-        );
+        let here = word.cell(u32::trailing_zeros(rest), dense);
+        let next = step.cell(here, work, vertices, indices, Counts { made, written });
+        made = next.made;
+        written = next.written;
         rest = rest & (rest - 1);
     }
-    reached
+    Counts { made, written }
 }
 
-// Row y of layer z, between the sign words of the sample layers z and z + 1.
-pub fn row_cells(
-    numbering: u32,
-    rows: &[u64; 256],
-    regulars: &[u64; 256],
-    news: &[u64; 2048],
-    coordinates: &[f32; 129],
-    slots: &[usize; 12],
-    low: &[u32; 513],
-    high: &[u32; 513],
-    samples: &[f32],
-    n: usize,
-    y: usize,
-    z: usize,
-    row: usize,
+// The words that hold the cells of a row.
+fn words_of(n: usize) -> usize
+    requires { (2 ≤ n) × (n ≤ 128) }
+    ensures { (n - 1 ≤ 32 * result) × (32 * result < n + 31) }
+{
+    (n + 30) / 32
+}
+
+// A row of cells.
+pub fn row_cells<S: CellStep>(
+    step: &S,
+    row: Row,
     work: &mut [u32],
     vertices: &mut [f32],
     indices: &mut [u32],
     counts: Counts,
 ) -> Counts
-    requires tables { Tables n z rows.now regulars.now news.now coordinates.now slots.now }
-    requires row_of { RowOf samples.now n y z × (row ≡ row_parity n z y) }
-    requires layer_words { LayerWords n samples.now z low.now × LayerWords n samples.now (z + 1) high.now }
-    requires room { Room n work.old 1920 counts }
+    requires ready { S.ready step.now row.layer.n row.layer.z }
+    requires room { (S.room row.layer.n ≤ length work.old) × (counts.written + 1920 < 2 ^ 32) }
     ensures result_after { in_hand work.new vertices.new indices.new result
-        ≡ cells_of_row (cell_step numbering n samples.now) n z y (n - 1) (in_hand work.old vertices.old indices.old counts) }
-    ensures written_bound { (result.written ≤ counts.written + 1920) × (result.made ≤ result.written) }
+        ≡ cells_of_row (S.step row.entry.layer.n row.entry.layer.samples.now) row.entry.layer.n row.entry.layer.z row.entry.y (row.entry.layer.n - 1) (in_hand work.old vertices.old indices.old counts) }
+    ensures written_bound { result.written ≤ counts.written + 1920 }
 {
-    if sign_cells::outside(low, high, y) {
+    if sign_cells::outside(row.layer.words, row.y) {
         return counts;
     }
-    let class = joined_slots::class_of_row(y, z);
+    let class = joined_slots::class_of_row(row.y, row.layer.z);
     let mut reached = counts;
-    let mut k: usize = 0;
-    while 32 * k < n - 1 {
-        let quad = sign_cells::quad_at(low, high, y, k);
-        let mask = sign_cells::active(quad, n, k);
-        reached = word_cells(
-            numbering,
-            rows,
-            regulars,
-            news,
-            coordinates,
-            slots,
-            samples,
-            n,
-            y,
-            z,
-            k,
-            quad,
-            mask,
-            class,
-            row,
-            work,
-            vertices,
-            indices,
-            reached,
-        );
-        k += 1;
+    for k in 0..words_of(row.layer.n) {
+        reached = word_cells(step, row.word(k, class), work, vertices, indices, reached);
     }
     reached
 }

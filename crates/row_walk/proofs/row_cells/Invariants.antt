@@ -4,15 +4,14 @@ use Prim.Native.Nat.{◌-◌, ◌*◌, ◌≤◌, min}
 use lib.ListN.{length}
 use Rattle.lent_mesh.specs.Stored.{in_hand}
 use Rattle.sign_cells.proofs.Turns.{Reached}
-use Rattle.row_walk.specs.Steps.{cell_step}
 use Rattle.row_walk.proofs.WordLoop.{hand_count}
 use Rattle.row_walk.proofs.row_cells.Given as goal
 
 abbrev pub invariant-loop-k : goal.invariant-loop-k
-invariant-loop-k l =
-    Reached hand_count (λ x t. cell_step l.numbering l.n l.samples l.z l.y x t) (in_hand l.initial.work l.initial.vertices l.initial.indices l.initial.reached) (in_hand l.work l.vertices l.indices l.reached) (min (32 * l.k) (l.n - 1)) (480 * l.k)
-    × (l.k ≤ 4) × (length l.work ≡ length l.initial.work) × (length l.vertices ≡ length l.initial.vertices) × (length l.indices ≡ length l.initial.indices)
-
-abbrev pub decreases-loop-k : goal.decreases-loop-k
-decreases-loop-k l =
-    l.n - 1 - 32 * l.k
+invariant-loop-k g l = record {
+  reached : Reached hand_count (λ x t. g.S.CellStep.step l.row.layer.n l.row.layer.samples.now l.row.layer.z l.row.y x t)
+      (in_hand l.initial.work l.initial.vertices l.initial.indices l.initial.reached) (in_hand l.work l.vertices l.indices l.reached) (min (32 * l.k) (l.row.layer.n - 1)) (480 * l.k);
+  work-same : length l.work ≡ length l.initial.work;
+  vertices-same : length l.vertices ≡ length l.initial.vertices;
+  indices-same : length l.indices ≡ length l.initial.indices
+}

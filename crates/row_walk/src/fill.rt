@@ -1,0 +1,137 @@
+// The steps of the two numberings that fill the lent outputs.
+
+ghost use Rattle.std.specs.Prelude.{◌≡◌, suc, ◌+◌, ◌*◌};
+ghost use Rattle.walk_models.specs.CacheMemory.{clear_row};
+ghost use Rattle.packed_tables.specs.Packed.{row_words, new_words};
+ghost use Rattle.packed_tables.specs.Regular.{regular_words};
+ghost use Rattle.lent_mesh.specs.Cell.{Coordinates};
+ghost use Rattle.joined_slots.specs.OneCell.{Slots};
+ghost use Rattle.row_walk.specs.Steps.{row_parity, cell_step};
+ghost use Rattle.row_walk.specs.IdleCells.{cell_step-idle};
+
+use crate::CellStep;
+use crate::layer::{Crossed, Layer};
+use lent_mesh::Counts;
+use lent_mesh::cell::Cell;
+
+// The crate numbering, by the tables that are made once and lent.
+#[derive(Clone, Copy)]
+pub struct CrateFill<'a> {
+    pub rows: &'a [u64; 256],
+    pub regulars: &'a [u64; 256],
+    pub coordinates: &'a [f32; 129],
+    pub ghost rows_are: { rows.now ≡ row_words },
+    pub ghost regulars_are: { regulars.now ≡ regular_words },
+}
+
+// The joined numbering, and where the edges of a layer's cells have their numbers.
+#[derive(Clone, Copy)]
+pub struct JoinedFill<'a> {
+    pub rows: &'a [u64; 256],
+    pub news: &'a [u64; 2048],
+    pub coordinates: &'a [f32; 129],
+    pub slots: [usize; 12],
+    pub ghost rows_are: { rows.now ≡ row_words },
+    pub ghost news_are: { news.now ≡ new_words },
+}
+
+impl CellStep for CrateFill<'_> {
+    ghost step = { cell_step 0 };
+
+    ghost ended = { λ n z w. clear_row n (row_parity n (suc z) 0) n w };
+
+    ghost room = { λ n. 8 * (n * n) + 6 * n };
+
+    ghost made_for = { λ s n. Coordinates n s.coordinates.now };
+
+    ghost ready = { λ s n z. Coordinates n s.coordinates.now };
+
+    fn at_layer(&self, n: usize, z: usize) -> Self {
+        *self
+    }
+
+    fn cell(&self, here: Crossed, work: &mut [u32], vertices: &mut [f32], indices: &mut [u32], counts: Counts) -> Counts {
+        let cell = Cell {
+            samples: here.row.layer.samples,
+            coordinates: self.coordinates,
+            n: here.row.layer.n,
+            x: here.x,
+            y: here.row.y,
+            z: here.row.layer.z,
+        };
+        crate_cells::crate_cell(
+            self.rows,
+            self.regulars,
+            cell,
+            here.case,
+            here.row.parity,
+            work,
+            vertices,
+            indices,
+            counts,
+        )
+    }
+
+    fn whole_layer(&self, layer: Layer, counts: Counts) -> Option<Counts> {
+        None
+    }
+
+    fn end_layer(&self, n: usize, row: usize, work: &mut [u32]) {
+        index_cache::clear_row(work, n, row);
+    }
+
+    ghost idle = { cell_step-idle 0 };
+}
+
+impl CellStep for JoinedFill<'_> {
+    ghost step = { cell_step 1 };
+
+    ghost ended = { λ n z w. w };
+
+    ghost room = { λ n. 8 * (n * n) + 6 * n };
+
+    ghost made_for = { λ s n. Coordinates n s.coordinates.now };
+
+    ghost ready = { λ s n z. Coordinates n s.coordinates.now × Slots n z s.slots };
+
+    fn at_layer(&self, n: usize, z: usize) -> Self {
+        JoinedFill {
+            rows: self.rows,
+            news: self.news,
+            coordinates: self.coordinates,
+            slots: joined_slots::slots(n, z),
+        }
+    }
+
+    fn cell(&self, here: Crossed, work: &mut [u32], vertices: &mut [f32], indices: &mut [u32], counts: Counts) -> Counts {
+        let cell = Cell {
+            samples: here.row.layer.samples,
+            coordinates: self.coordinates,
+            n: here.row.layer.n,
+            x: here.x,
+            y: here.row.y,
+            z: here.row.layer.z,
+        };
+        joined_edges::joined_cell(
+            self.rows,
+            self.news,
+            cell,
+            &self.slots,
+            here.case,
+            here.class,
+            here.dense,
+            work,
+            vertices,
+            indices,
+            counts,
+        )
+    }
+
+    fn whole_layer(&self, layer: Layer, counts: Counts) -> Option<Counts> {
+        None
+    }
+
+    fn end_layer(&self, n: usize, row: usize, work: &mut [u32]) {}
+
+    ghost idle = { cell_step-idle 1 };
+}
