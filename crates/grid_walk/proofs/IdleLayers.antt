@@ -18,13 +18,14 @@ use Rattle.walk_models.specs.Owned.{cells_of_row, cells_of_layer}
 use Rattle.walk_models.specs.CacheMemory.{layer_place, row_place, clear_row}
 use Rattle.walk_models.proofs.CacheViews.{row-cleared}
 use Rattle.lent_mesh.specs.Grid.{inside_of}
-use Rattle.sign_cells.proofs.Turns.{Reached, times-idle}
+use Rattle.sign_cells.proofs.Turns.{times-idle}
 use Rattle.grid_walk.specs.declared.Span.{Span}
 use Rattle.grid_walk.specs.Growth.{GrowsWithin}
 use Rattle.row_walk.specs.Steps.{Hand, row_parity, cell_step}
 use Rattle.grid_walk.specs.Steps.{layer_step, walk_steps}
 use Rattle.row_walk.proofs.OneCell.{parity-le}
-use Rattle.row_walk.proofs.WordLoop.{hand_count, row-idle}
+use Rattle.row_walk.specs.IdleCells.{cell_step-idle}
+use Rattle.row_walk.proofs.WordLoop.{row-idle}
 use Rattle.grid_walk.proofs.NoVisits.{no-visits}
 
 -- the words that a size asks for
@@ -73,7 +74,7 @@ module _ (numbering n : ℕ) (samples : List Float) where
   unfolding cells_of_layer
   cells-idle z s none =
       times-idle (λ y t. cells_of_row (cell_step numbering n samples) n z y (n - 1) t) s (n - 1)
-      (λ y h. sym (row-idle numbering n samples z y s (λ x l. none y x h (omega arith))))
+      (λ y h. sym (row-idle (cell_step numbering) n samples z y s (cell_step-idle numbering) (λ x l. none y x h (omega arith))))
 
   -- ---- before anything is made
 
@@ -135,16 +136,12 @@ module _ (numbering n : ℕ) (samples : List Float) where
   -- ---- the layers outside of the span
 
   module _ (span : Span) (within : GrowsWithin (λ k. length (visits (inside_of n samples) n k)) n span) where
-    -- the walk from the first layer of the span is as far as if it had taken those before
-    pub reached-begun : (work : List ℕ) (vertices : List Float) (indices : List ℕ) → ((i : ℕ) → i < room n → get_or work i 0 ≡ 0)
-        → Reached hand_count step (untouched work vertices indices) (untouched work vertices indices) span.first (243840 * span.first)
-    unfolding walk_steps visits walk times
-    reached-begun work vertices indices zeros =
-        record {
-          state = walk_steps-still span.first (untouched work vertices indices) zeros (λ z h y x. no-visits (inside_of n samples) n 0 span.first (sym within.none_before) z y x (omega arith) h);
-          grown = omega arith;
-          ordered = omega arith;
-        }
+    -- the layers before the first of the span have nothing to make
+    pub walk_steps-begun : (work : List ℕ) (vertices : List Float) (indices : List ℕ) → ((i : ℕ) → i < room n → get_or work i 0 ≡ 0)
+        → walk_steps numbering n samples span.first (untouched work vertices indices) ≡ untouched work vertices indices
+    unfolding visits walk times
+    walk_steps-begun work vertices indices zeros =
+        sym (walk_steps-still span.first (untouched work vertices indices) zeros (λ z h y x. no-visits (inside_of n samples) n 0 span.first (sym within.none_before) z y x (omega arith) h))
 
     -- and at its last layer the mesh is that of all
     pub walk_steps-ended : (s : Hand) → room n ≤ length (walk_steps numbering n samples span.last s).memory

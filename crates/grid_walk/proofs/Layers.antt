@@ -1,12 +1,10 @@
 -- From layer to layer: the parity of the cache rows, the samples that are there, and the end of a layer.
 use mathlib.Core.Path.{◌≡◌, refl, ap, ◌∙◌}
-use mathlib.Core.Bool.{Bool, true, false, cond}
 use mathlib.Core.List.{List}
 use Prim.Native.Nat.{ℕ, suc, ◌+◌, ◌-◌, ◌*◌, ◌%◌, ◌≤◌, ◌<◌}
 use native.Mathlib.Nat.{suc-mul, mul-le-mul_right}
 use native.Mathlib.Numerals.{add-one}
 use native.Mathlib.Omega.{arith}
-use lib.Dec.{eqb}
 use lib.ListN.{length}
 use lib.Ieee.{Float}
 use Rattle.walk_models.specs.Owned.{cells_of_layer}
@@ -16,7 +14,9 @@ use Rattle.lent_mesh.specs.Stored.{in_hand}
 use Rattle.sign_words.proofs.RowWords.{planes-le}
 use Rattle.row_walk.specs.Steps.{Hand, row_parity, cell_step}
 use Rattle.row_walk.specs.Ready.{LayerOf}
-use Rattle.grid_walk.specs.Steps.{layer_step}
+use Rattle.grid_walk.specs.declared.Span.{Span}
+use Rattle.grid_walk.specs.Growth.{GrowsWithin}
+use Rattle.grid_walk.specs.Steps.{with_memory, layer_done, layers_done, layer_step, walk_steps}
 
 added : (k m : ℕ) → (k % 2 + m) % 2 ≡ (k + m) % 2
 added k m = omega arith
@@ -43,19 +43,43 @@ layer-of samples n z least most whole h =
     record { least = least; most = most; in-z = h; planes = planes-le n (z + 2) (length samples) up whole }
 
 -- a layer of cells, then its end
-pub layer-done : (numbering n : ℕ) (samples : List Float) (z row : ℕ) (work cleared : List ℕ) (vertices : List Float) (indices : List ℕ) (counts : Counts) (here : Hand)
-    → row ≡ row_parity n (z + 1) 0
-    → in_hand work vertices indices counts ≡ cells_of_layer (cell_step numbering n samples) n z (n - 1) here
-    → cleared ≡ cond (eqb numbering 0) (clear_row n row n work) work
-    → in_hand cleared vertices indices counts ≡ layer_step numbering n samples z (cells_of_layer (cell_step numbering n samples) n z (n - 1) here)
-unfolding layer_step
-layer-done numbering n samples z row work cleared vertices indices counts here p e q =
-    let next : row ≡ row_parity n (suc z) 0 = p ∙ ap (λ (k : ℕ). row_parity n k 0) (add-one z) in
-    ap (λ (w : List ℕ). in_hand w vertices indices counts) (q ∙ rw next)
-    ∙ either (eqb numbering 0)
-    ∙ ap (λ (s : Hand). cond (eqb numbering 0) (record { memory = clear_row n (row_parity n (suc z) 0) n s.memory; vertices = s.vertices; indices = s.indices; made = s.made; written = s.written }) s) e
-  where
-    either : (b : Bool) → in_hand (cond b (clear_row n (row_parity n (suc z) 0) n work) work) vertices indices counts
-        ≡ cond b (in_hand (clear_row n (row_parity n (suc z) 0) n work) vertices indices counts) (in_hand work vertices indices counts)
-    either true = refl
-    either false = refl
+pub layer-done : (step : ℕ → List Float → ℕ → ℕ → ℕ → Hand → Hand) (ended : ℕ → ℕ → List ℕ → List ℕ) (n : ℕ) (samples : List Float) (z : ℕ)
+    (work cleared : List ℕ) (vertices : List Float) (indices : List ℕ) (counts : Counts) (here : Hand)
+    → in_hand work vertices indices counts ≡ cells_of_layer (step n samples) n z (n - 1) here
+    → cleared ≡ ended n z work
+    → in_hand cleared vertices indices counts ≡ layer_done step ended n samples z here
+layer-done step ended n samples z work cleared vertices indices counts here e q =
+    ap (λ (w : List ℕ). in_hand w vertices indices counts) q ∙ ap (with_memory (ended n z)) e
+
+-- the two numberings' own layers
+pub crate-layers : (n : ℕ) (samples : List Float) (k : ℕ) (s : Hand)
+    → layers_done (cell_step 0) (λ n z w. clear_row n (row_parity n (suc z) 0) n w) n samples k s ≡ walk_steps 0 n samples k s
+unfolding layers_done walk_steps layer_step
+crate-layers n samples k s = refl
+
+pub joined-layers : (n : ℕ) (samples : List Float) (k : ℕ) (s : Hand) → layers_done (cell_step 1) (λ n z w. w) n samples k s ≡ walk_steps 1 n samples k s
+unfolding layers_done walk_steps layer_step
+joined-layers n samples k s = refl
+
+-- ---- the layers in which a count grows, one layer more at a time
+
+module _ (counted : ℕ → ℕ) (z : ℕ) (span : Span) (within : GrowsWithin counted z span) where
+  -- the layer adds nothing
+  pub span-kept : counted z ≡ counted (z + 1) → GrowsWithin counted (z + 1) span
+  span-kept same =
+      let most = within.most in
+      record { ordered = within.ordered; most = omega arith; none_before = within.none_before; none_after = within.none_after ∙ same }
+
+  -- it is the first that adds something
+  pub span-begun : counted z ≡ 0 → GrowsWithin counted (z + 1) (record { first = z; last = z + 1 })
+  span-begun none = record { ordered = omega arith; most = omega arith; none_before = none; none_after = refl }
+
+  -- it adds something
+  pub span-longer : GrowsWithin counted (z + 1) (record { first = span.first; last = z + 1 })
+  span-longer =
+      let ordered = within.ordered in
+      let most = within.most in
+      record { ordered = omega arith; most = omega arith; none_before = within.none_before; none_after = refl }
+
+pub span_none : (counted : ℕ → ℕ) (z : ℕ) → counted z ≡ 0 → GrowsWithin counted z (record { first = z; last = z })
+span_none counted z none = record { ordered = omega arith; most = omega arith; none_before = none; none_after = refl }

@@ -16,11 +16,11 @@ use sign_words::Layers;
 
 // Layer z of a grid of size n, with the sign words of the samples below it and above it.
 #[derive(Clone, Copy)]
-pub struct Layer<'a> {
+pub struct Layer<'a, 'b> {
     pub samples: &'a [f32],
     pub n: usize,
     pub z: usize,
-    pub words: Layers<'a>,
+    pub words: Layers<'b>,
     pub ghost of_grid: { LayerOf samples.now n z },
     pub ghost low_are: { LayerWords n samples.now z words.low.now },
     pub ghost high_are: { LayerWords n samples.now (z + 1) words.high.now },
@@ -28,8 +28,8 @@ pub struct Layer<'a> {
 
 // Row y of a layer, and which parts of the index cache its cells read.
 #[derive(Clone, Copy)]
-pub struct Row<'a> {
-    pub layer: Layer<'a>,
+pub struct Row<'a, 'b> {
+    pub layer: Layer<'a, 'b>,
     pub y: usize,
     pub parity: Parity,
     pub ghost in_y: { y + 1 < layer.n },
@@ -38,8 +38,8 @@ pub struct Row<'a> {
 
 // Word k of a row: the signs of its cells' corners, and the class of the row's cells but the first.
 #[derive(Clone, Copy)]
-pub struct Word<'a> {
-    pub row: Row<'a>,
+pub struct Word<'a, 'b> {
+    pub row: Row<'a, 'b>,
     pub k: usize,
     pub quad: Quad,
     pub class: usize,
@@ -50,8 +50,8 @@ pub struct Word<'a> {
 
 // The cell x of a row: its sign byte and its class. Where nearly all cells around it are crossed too it is dense.
 #[derive(Clone, Copy)]
-pub struct Crossed<'a> {
-    pub row: Row<'a>,
+pub struct Crossed<'a, 'b> {
+    pub row: Row<'a, 'b>,
     pub x: usize,
     pub case: usize,
     pub class: usize,
@@ -61,9 +61,9 @@ pub struct Crossed<'a> {
     pub ghost class_is: { class ≡ class_of x row.y row.layer.z },
 }
 
-impl<'a> Row<'a> {
+impl<'a, 'b> Row<'a, 'b> {
     // Word k, where the row has one.
-    pub fn word(self, k: usize, class: usize) -> Word<'a>
+    pub fn word(self, k: usize, class: usize) -> Word<'a, 'b>
         requires { (32 * k < self.layer.n - 1) × (class ≡ class_of 1 self.y self.layer.z) × (class ≤ 6) }
         ensures { (result.row ≡ self.entry) × (result.k ≡ k) }
     {
@@ -77,9 +77,9 @@ impl<'a> Row<'a> {
     }
 }
 
-impl<'a> Word<'a> {
+impl<'a, 'b> Word<'a, 'b> {
     // Cell i of the word.
-    pub fn cell(self, i: u32, dense: bool) -> Crossed<'a>
+    pub fn cell(self, i: u32, dense: bool) -> Crossed<'a, 'b>
         requires { i < cells_in self.row.layer.n self.k }
         ensures { (result.row ≡ self.entry.row) × (result.x ≡ 32 * self.entry.k + i) }
     {
