@@ -1,4 +1,3 @@
-pub mod CountLayer
-pub mod JoinedLayer
+pub mod CountLayers
 pub mod Spans
 pub mod CountedMesh
