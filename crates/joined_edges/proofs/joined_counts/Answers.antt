@@ -1,5 +1,5 @@
 -- `joined_counts`: the cell's word in `news` has the lengths of both lists, so the row's own word is not read.
-use mathlib.Core.Path.{refl, sym, ap, ◌∙◌}
+use mathlib.Core.Path.{refl, sym, ap}
 use Prim.Native.Nat.{ℕ, ◌+◌}
 use native.Mathlib.Omega.{arith}
 use Rattle.joined_edges.proofs.CellWords.{new-words, counts-grown, cell-counts}

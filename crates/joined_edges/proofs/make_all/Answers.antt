@@ -1,7 +1,6 @@
 -- `make_all`: what is left of the list, made from here, is the whole of it made from the start.
 use mathlib.Core.Path.{refl, sym, ap, ◌∙◌}
-use Prim.Native.Nat.{ℕ, ◌+◌}
-use mathlib.Core.List.{List}
+use Prim.Native.Nat.{◌+◌}
 use native.Mathlib.Omega.{arith}
 use Rattle.walk_models.specs.Owned.{make_edge}
 use Rattle.packed_tables.specs.declared.edges.PackedEdges.{PackedEdges}

@@ -11,7 +11,7 @@ use Rattle.packed_tables.specs.Packed.{row_words}
 use Rattle.lent_mesh.specs.Stored.{store_at}
 use Rattle.joined_slots.specs.OneCell.{each}
 use Rattle.inner_cells.specs.Ranked.{hand}
-use Rattle.joined_edges.proofs.CellWords.{Words, new-words}
+use Rattle.joined_edges.proofs.CellWords.{new-words}
 use Rattle.joined_edges.proofs.InnerCells.{inner-marks, inner_made}
 use Rattle.joined_edges.proofs.make_new.Goals as goal
 

@@ -1,7 +1,7 @@
 -- `name_all`: what is left of the triangles, named from here, is the whole of them named from the start. A turn names three edges.
 use mathlib.Core.Path.{sym, ap, ◌∙◌}
 use mathlib.Core.List.{List}
-use Prim.Native.Nat.{ℕ, ◌+◌, ◌*◌, ◌<◌}
+use Prim.Native.Nat.{ℕ, ◌+◌, ◌*◌}
 use native.Mathlib.Omega.{arith}
 use Rattle.walk_models.specs.Owned.{name_edge}
 use Rattle.packed_tables.specs.declared.edges.PackedTriangles.{PackedTriangles}

@@ -1,7 +1,5 @@
 -- `place`: the slot of an edge of a cell is in the working memory.
 use native.Mathlib.Omega.{arith}
-use Prim.Native.Nat.{◌+◌, ◌<◌}
-use lib.ListN.{get_or}
 use Rattle.joined_slots.proofs.TwelveSlots.{slot-in-work, slot-small}
 use Rattle.joined_slots.proofs.slot_cell.SlotCell.place.Goals as goal
 
