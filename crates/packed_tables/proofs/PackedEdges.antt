@@ -1,16 +1,35 @@
 -- A packed list of edges: its first edge and the others, how many there are, and that each is the number of an edge. For the loops over packed lists.
-use mathlib.Core.Path.{◌≡◌, refl, ap, subst}
+use mathlib.Core.Path.{◌≡◌, refl, sym, ap, subst}
 use mathlib.Core.List.{List, [], ◌∷◌}
 use Prim.Native.Nat.{ℕ, zero, suc, ◌-◌, ◌*◌, ◌/◌, ◌%◌, ◌<◌}
 use native.Mathlib.Nat.{not-suc-le-zero, le_of_suc-le-suc}
 use native.Mathlib.Omega.{arith}
 use lib.ListN.{length, get_or}
-use Rattle.packed_tables.specs.Unpacked.{unpacked, Edges}
+use Rattle.packed_tables.specs.Unpacked.{unpacked, Edges, triangles, edges_of}
 
 pub unpacked-suc : (left rest : ℕ) → 0 < left → unpacked left rest ≡ rest % 16 ∷ unpacked (left - 1) (rest / 16)
 unfolding unpacked
 unpacked-suc zero rest h = absurd (omega arith)
 unpacked-suc (suc k) rest h = let e : suc k - 1 ≡ k = omega arith in rw e
+
+pub unpacked-none : (left rest : ℕ) → left ≡ 0 → unpacked left rest ≡ []
+unfolding unpacked
+unpacked-none left rest h = rw h
+
+pub triangles-suc : (left rest : ℕ) → 0 < left
+    → triangles left rest ≡ (rest % 16, rest / 16 % 16, rest / 16 / 16 % 16) ∷ triangles (left - 1) (rest / 16 / 16 / 16)
+unfolding triangles
+triangles-suc zero rest h = absurd (omega arith)
+triangles-suc (suc k) rest h = let e : suc k - 1 ≡ k = omega arith in rw e
+
+pub triangles-none : (left rest : ℕ) → left ≡ 0 → triangles left rest ≡ []
+unfolding triangles
+triangles-none left rest h = rw h
+
+pub triangles-length : (k word : ℕ) → length (triangles k word) ≡ k
+unfolding triangles
+triangles-length zero word = refl
+triangles-length (suc k) word = ap suc (triangles-length k (word / 16 / 16 / 16))
 
 pub unpacked-length : (k word : ℕ) → length (unpacked k word) ≡ k
 unfolding unpacked
@@ -51,3 +70,14 @@ three-edges left rest h es =
       edges-first (3 * left - 1 - 1) (rest / 16 / 16) (omega arith) one,
       subst (λ (k : ℕ). Edges (unpacked k (rest / 16 / 16 / 16))) thrice none,
     )
+
+-- triangle by triangle they are the edges of the word
+pub edges-of-triangles : (k word : ℕ) → edges_of (triangles k word) ≡ unpacked (3 * k) word
+unfolding triangles edges_of unpacked
+edges-of-triangles zero word = refl
+edges-of-triangles (suc k) word =
+    let thrice : 3 * suc k ≡ suc (suc (suc (3 * k))) = omega arith in
+    rw thrice (ap (λ (es : List ℕ). word % 16 ∷ word / 16 % 16 ∷ word / 16 / 16 % 16 ∷ es) (edges-of-triangles k (word / 16 / 16 / 16)))
+
+pub triangles-known : (k word : ℕ) → Edges (unpacked (3 * k) word) → Edges (edges_of (triangles k word))
+triangles-known k word h = subst Edges (sym (edges-of-triangles k word)) h

@@ -1,3 +1,4 @@
 pub mod Unpacked
 pub mod Packed
 pub mod Regular
+pub mod Listed

@@ -1,5 +1,6 @@
 -- A list of edges in one word. A private model, which the contracts of the walk's functions cite.
 use Rattle.std.specs.Prelude.{List, [], ◌∷◌, ◌++◌, ℕ, zero, suc, ◌+◌, ◌*◌, ◌/◌, ◌%◌, ◌^◌, ◌<◌}
+use Rattle.std.specs.Coded.{×_prop, Unit-prop, le_prop}
 
 -- k edges, four bits each, the first in the lowest
 unfoldable pub unpacked : ℕ → ℕ → List ℕ
@@ -10,6 +11,22 @@ unpacked (suc k) word = word % 16 ∷ unpacked k (word / 16)
 unfoldable pub Edges : List ℕ → Type 0
 Edges [] = Unit
 Edges (e ∷ es) = (e < 12) × Edges es
+
+-- there is one proof of that at most
+pub edges-prop : (es : List ℕ) → IsProp (Edges es)
+unfolding Edges
+edges-prop [] = Unit-prop
+edges-prop (e ∷ es) = ×_prop le_prop (edges-prop es)
+
+-- a list three edges at a time
+unfoldable pub triangles : ℕ → ℕ → List (ℕ × ℕ × ℕ)
+triangles zero word = []
+triangles (suc k) word = (word % 16, word / 16 % 16, word / 16 / 16 % 16) ∷ triangles k (word / 16 / 16 / 16)
+
+-- their edges, one after the other
+unfoldable pub edges_of : List (ℕ × ℕ × ℕ) → List ℕ
+edges_of [] = []
+edges_of ((a, b, c) ∷ list) = a ∷ b ∷ c ∷ edges_of list
 
 -- An edge's mark is one more than its rank in such a list, or 0 where it is not in it. Edge and rank are one number.
 abbrev pub marked : ℕ → ℕ → List ℕ

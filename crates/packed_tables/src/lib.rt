@@ -3,6 +3,7 @@
 
 #![tactic(auto)]
 
+pub mod edges;
 mod news;
 mod regulars;
 mod rows;

@@ -1,0 +1,70 @@
+// The edges that a word of a table holds, one after the other or three at a time, so that a walk goes over them with `for`.
+
+ghost use Rattle.std.specs.Prelude.{◌≡◌, ◌*◌};
+ghost use Rattle.packed_tables.specs.Unpacked.{unpacked, Edges, edges-prop};
+
+// The first `count` edges of a word, four bits each, the first in the lowest.
+#[derive(Clone, Copy)]
+pub struct PackedEdges {
+    pub count: u64,
+    pub word: u64,
+    pub ghost known: { Edges (unpacked count word) } by { edges-prop (unpacked count word) },
+}
+
+impl Iterator for PackedEdges {
+    ghost use Rattle.std.specs.Iterator.{YieldsFirst, item_count};
+    ghost use Rattle.packed_tables.specs.Listed.{edges_left};
+
+    type Item = usize;
+
+    ghost next_gives = { YieldsFirst edges_left };
+
+    ghost remaining = { item_count edges_left };
+
+    #[inline(always)]
+    fn next(&mut self) -> Option<usize> {
+        if self.count == 0 {
+            return None;
+        }
+        let edge = (self.word % 16) as usize;
+        self.count -= 1;
+        self.word /= 16;
+        Some(edge)
+    }
+}
+
+// The edges of the first `count` triangles of a word, three edges each.
+#[derive(Clone, Copy)]
+pub struct PackedTriangles {
+    pub count: u64,
+    pub word: u64,
+    pub ghost known: { Edges (unpacked (3 * count) word) } by { edges-prop (unpacked (3 * count) word) },
+}
+
+impl Iterator for PackedTriangles {
+    ghost use Rattle.std.specs.Iterator.{YieldsFirst, item_count};
+    ghost use Rattle.packed_tables.specs.Listed.{triangles_left};
+
+    type Item = (usize, usize, usize);
+
+    ghost next_gives = { YieldsFirst triangles_left };
+
+    ghost remaining = { item_count triangles_left };
+
+    #[inline(always)]
+    fn next(&mut self) -> Option<(usize, usize, usize)> {
+        if self.count == 0 {
+            return None;
+        }
+        let second = self.word / 16;
+        let third = second / 16;
+        let edges = (
+            (self.word % 16) as usize,
+            (second % 16) as usize,
+            (third % 16) as usize,
+        );
+        self.count -= 1;
+        self.word = third / 16;
+        Some(edges)
+    }
+}
