@@ -9,7 +9,7 @@ use Rattle.walk_models.specs.Lent.{Lent}
 use Rattle.walk_models.specs.CacheMemory.{CacheMemory}
 use Rattle.packed_tables.specs.Regular.{rank_of}
 use Rattle.held_visits.specs.CellMemory.{number_edge}
-use Rattle.regular_edges.specs.RegularEdges.{named_edge, two_edges, lower_edges, regular_edges}
+use Rattle.regular_edges.specs.RegularEdges.{named_edge, regular_edges}
 
 abbrev State : Type 0
 State = Lent CacheMemory (List Float)
@@ -30,6 +30,6 @@ module _ (n : ℕ) (samples : List Float) (x y z regular made : ℕ) where
   -- one after the other
   pub six-named : (s a b c d e f : State) → a ≡ step 0 s → b ≡ step 5 a → c ≡ step 6 b → d ≡ step 7 c → e ≡ step 10 d → f ≡ step 11 e
       → f ≡ regular_edges n samples x y z regular made s
-  unfolding two_edges lower_edges regular_edges
+  unfolding regular_edges
   six-named s a b c d e f ea eb ec ed ee ef =
       ef ∙ ap (step 11) (ee ∙ ap (step 10) (ed ∙ ap (step 7) (ec ∙ ap (step 6) (eb ∙ ap (step 5) ea))))
