@@ -1,7 +1,7 @@
 -- Visits of some edges, one turn of a loop after the other: what is still to do from here is what was to do from the start. For `visit_all`.
 use mathlib.Core.Path.{◌≡◌, sym, ap, ◌∙◌}
 use mathlib.Core.List.{List, [], ◌∷◌}
-use Prim.Native.Nat.{ℕ, ◌<◌}
+use Prim.Native.Nat.{ℕ}
 use lib.Ieee.{Float}
 use Rattle.walk.proofs.OwnedCells.{fold, times-fold}
 use Rattle.walk_models.specs.Lent.{Lent}

@@ -1,5 +1,5 @@
 -- `name_all`: what is left of the list, named from here, is the whole of it named from the start. A turn names three edges.
-use mathlib.Core.Path.{ap, subst, ◌∙◌}
+use mathlib.Core.Path.{ap, ◌∙◌}
 use mathlib.Core.List.{List}
 use Prim.Native.Nat.{ℕ}
 use native.Mathlib.Omega.{arith}
