@@ -1,83 +1,65 @@
 -- `name_all`: what is left of the list, named from here, is the whole of it named from the start. A turn names three edges.
-use mathlib.Core.Path.{refl, sym, ◌∙◌}
-use Prim.Native.Nat.{◌-◌, ◌*◌, ◌/◌, ◌%◌, ◌<◌}
+use mathlib.Core.Path.{ap, ◌∙◌}
+use mathlib.Core.List.{List}
+use Prim.Native.Nat.{ℕ}
 use native.Mathlib.Omega.{arith}
-use Rattle.packed_tables.specs.Unpacked.{unpacked, Edges}
-use Rattle.packed_tables.proofs.PackedEdges.{three-edges}
-use Rattle.regular_cells.proofs.NamedRow.{name-three, name-none}
+use lib.ListN.{length}
+use Rattle.packed_tables.specs.Listed.{triangles_left}
+use Rattle.packed_tables.proofs.PackedEdges.{triangle-known, triangles-length, edges-of-triangles}
+use Rattle.held_visits.specs.CellMemory.{in_cell, hand}
+use Rattle.regular_cells.specs.RegularCell.{name_edges}
+use Rattle.regular_cells.proofs.NamedRow.{triangle-named, all-named}
 use Rattle.regular_cells.proofs.name_all.Goals as goal
 
-pub loop-left-init : goal.loop-left-init
-loop-left-init c = (refl, omega (arith, c.requires.1), c.requires.0, refl, λ work layer row b. refl)
+pub offset_bounds-current-a : goal.offset_bounds-current-a
+offset_bounds-current-a c = omega (arith, (triangle-known c.loop-a.a-iterator c.in-Some.a c.in-Some.b c.in-Some.c _ c.in-Some.ensures.steps).0)
 
-pub offset_bounds-current-rest : goal.offset_bounds-current-rest
-offset_bounds-current-rest c =
-    let edges : let rest = c.loop-left.rest in (rest % 16 < 12) × (rest / 16 % 16 < 12) × (rest / 16 / 16 % 16 < 12) × Edges (unpacked (3 * (c.loop-left.left - 1)) (rest / 16 / 16 / 16)) =
-    three-edges c.loop-left.left c.loop-left.rest c.loop-left-test.true c.loop-left.invariant.2 in
-    omega (arith, edges.0)
+pub bounds-current-a : goal.bounds-current-a
+bounds-current-a c = (triangle-known c.loop-a.a-iterator c.in-Some.a c.in-Some.b c.in-Some.c _ c.in-Some.ensures.steps).0
 
-pub bounds-current-rest : goal.bounds-current-rest
-bounds-current-rest c =
-    let edges : let rest = c.loop-left.rest in (rest % 16 < 12) × (rest / 16 % 16 < 12) × (rest / 16 / 16 % 16 < 12) × Edges (unpacked (3 * (c.loop-left.left - 1)) (rest / 16 / 16 / 16)) =
-    three-edges c.loop-left.left c.loop-left.rest c.loop-left-test.true c.loop-left.invariant.2 in
-    edges.0
+pub offset_bounds-current-b : goal.offset_bounds-current-b
+offset_bounds-current-b c = omega (arith, (triangle-known c.loop-a.a-iterator c.in-Some.a c.in-Some.b c.in-Some.c _ c.in-Some.ensures.steps).1)
 
-pub offset_bounds-current-second : goal.offset_bounds-current-second
-offset_bounds-current-second c =
-    let edges : let rest = c.loop-left.rest in (rest % 16 < 12) × (rest / 16 % 16 < 12) × (rest / 16 / 16 % 16 < 12) × Edges (unpacked (3 * (c.loop-left.left - 1)) (rest / 16 / 16 / 16)) =
-    three-edges c.loop-left.left c.loop-left.rest c.loop-left-test.true c.loop-left.invariant.2 in
-    omega (arith, edges.1)
+pub bounds-current-b : goal.bounds-current-b
+bounds-current-b c = (triangle-known c.loop-a.a-iterator c.in-Some.a c.in-Some.b c.in-Some.c _ c.in-Some.ensures.steps).1
 
-pub bounds-current-second : goal.bounds-current-second
-bounds-current-second c =
-    let edges : let rest = c.loop-left.rest in (rest % 16 < 12) × (rest / 16 % 16 < 12) × (rest / 16 / 16 % 16 < 12) × Edges (unpacked (3 * (c.loop-left.left - 1)) (rest / 16 / 16 / 16)) =
-    three-edges c.loop-left.left c.loop-left.rest c.loop-left-test.true c.loop-left.invariant.2 in
-    edges.1
+pub offset_bounds-current-c : goal.offset_bounds-current-c
+offset_bounds-current-c c = omega (arith, (triangle-known c.loop-a.a-iterator c.in-Some.a c.in-Some.b c.in-Some.c _ c.in-Some.ensures.steps).2)
 
-pub offset_bounds-current-third : goal.offset_bounds-current-third
-offset_bounds-current-third c =
-    let edges : let rest = c.loop-left.rest in (rest % 16 < 12) × (rest / 16 % 16 < 12) × (rest / 16 / 16 % 16 < 12) × Edges (unpacked (3 * (c.loop-left.left - 1)) (rest / 16 / 16 / 16)) =
-    three-edges c.loop-left.left c.loop-left.rest c.loop-left-test.true c.loop-left.invariant.2 in
-    omega (arith, edges.2)
+pub bounds-current-c : goal.bounds-current-c
+bounds-current-c c = (triangle-known c.loop-a.a-iterator c.in-Some.a c.in-Some.b c.in-Some.c _ c.in-Some.ensures.steps).2
 
-pub bounds-current-third : goal.bounds-current-third
-bounds-current-third c =
-    let edges : let rest = c.loop-left.rest in (rest % 16 < 12) × (rest / 16 % 16 < 12) × (rest / 16 / 16 % 16 < 12) × Edges (unpacked (3 * (c.loop-left.left - 1)) (rest / 16 / 16 / 16)) =
-    three-edges c.loop-left.left c.loop-left.rest c.loop-left-test.true c.loop-left.invariant.2 in
-    edges.2
+pub put_three-requires : goal.put_three-requires
+put_three-requires c =
+    let one = ap (λ (ts : List (ℕ × ℕ × ℕ)). length ts) c.in-Some.ensures.steps in
+    omega (arith, one, c.loop-a.invariant.2, triangles-length c.args.triangles.count c.args.triangles.word, c.requires)
 
-pub overflow_add-written : goal.overflow_add-written
-overflow_add-written c =
-    let given = c.requires in
-    omega (arith, c.loop-left.invariant.0, c.loop-left-test.true, given.1, given.2)
+pub overflow_add-place : goal.overflow_add-place
+overflow_add-place c =
+    let one = ap (λ (ts : List (ℕ × ℕ × ℕ)). length ts) c.in-Some.ensures.steps in
+    omega (arith, one, c.loop-a.invariant.2, triangles-length c.args.triangles.count c.args.triangles.word, c.requires)
 
-pub overflow_sub-left : goal.overflow_sub-left
-overflow_sub-left c = omega (arith, c.loop-left-test.true)
-
-pub loop-left-smaller : goal.loop-left-smaller
-loop-left-smaller c = omega (arith, c.loop-left-test.true)
-
-pub loop-left-preserved : goal.loop-left-preserved
-loop-left-preserved c =
-    let edges : let rest = c.loop-left.rest in (rest % 16 < 12) × (rest / 16 % 16 < 12) × (rest / 16 / 16 % 16 < 12) × Edges (unpacked (3 * (c.loop-left.left - 1)) (rest / 16 / 16 / 16)) =
-    three-edges c.loop-left.left c.loop-left.rest c.loop-left-test.true c.loop-left.invariant.2 in
-    let args = c.args in (
-      omega (arith, c.loop-left-test.true, c.loop-left.invariant.0),
-      omega (arith, c.loop-left.invariant.1),
-      edges.3,
-      c.indices-1.given ∙ c.loop-left.invariant.3,
-      λ work layer row b.
-          sym (name-three work layer row args.current.now b args.counts.made c.loop-left.left c.loop-left.rest c.loop-left-test.true c.loop-left.written c.loop-left.indices _
-          c.put_three.ensures)
-          ∙ c.loop-left.invariant.4 work layer row b,
+pub loop-a-preserved : goal.loop-a-preserved
+loop-a-preserved c =
+    let inv = c.loop-a.invariant in
+    let one = ap (λ (ts : List (ℕ × ℕ × ℕ)). length ts) c.in-Some.ensures.steps in (
+      tt,
+      tt,
+      omega (arith, one, inv.2),
+      c.put_three.auto.indices ∙ inv.3,
+      λ work layer row b made.
+          triangle-named work layer row c.args.current.now b made c.in-Some.a c.in-Some.b c.in-Some.c (triangles_left c.loop-a.a-iterator) _ _ c.loop-a.place
+          c.loop-a.indices c.put_three.new.indices _ c.in-Some.ensures.steps c.put_three.ensures (inv.4 work layer row b made),
     )
 
-pub shape_of-indices : goal.shape_of-indices
-shape_of-indices c = c.loop-left.invariant.3
+pub returns-clause-by_index : goal.returns-clause-by_index
+returns-clause-by_index c =
+    let list = c.args.triangles in
+    λ work layer row b made.
+    all-named (triangles_left c.loop-a.a-iterator) _ _ _ c.in-None.ensures.steps.0 (c.loop-a.invariant.4 work layer row b made)
+    ∙ ap (λ (es : List ℕ). name_edges es (hand (in_cell work layer row c.args.current.now) b c.args.indices.now made c.args.written)) (edges-of-triangles list.count list.word)
 
-pub returns : goal.returns
-returns c =
-    record {
-      by_index = λ work layer row b. name-none _ c.loop-left.left c.loop-left.rest _ _ _ (omega (arith, c.loop-left-test.false)) (c.loop-left.invariant.4 work layer row b);
-      made_value = (refl, omega (arith, c.loop-left-test.false, c.loop-left.invariant.0));
-    }
+pub returns-clause-written_value : goal.returns-clause-written_value
+returns-clause-written_value c =
+    let none = ap (λ (ts : List (ℕ × ℕ × ℕ)). length ts) c.in-None.ensures.steps.0 in
+    omega (arith, none, c.loop-a.invariant.2, triangles-length c.args.triangles.count c.args.triangles.word)
