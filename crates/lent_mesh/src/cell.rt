@@ -42,7 +42,7 @@ fn store(vertices: &mut [f32], at: usize, p: Vertex)
 impl Cell<'_> {
     fn sample(self, x: usize, y: usize, z: usize) -> f32
         requires { (x < self.n) × (y < self.n) × (z ≤ self.n) × (self.n * self.n * (z + 1) ≤ length self.samples.now) }
-        ensures { result ≡ sample_at self.n self.samples.now (record { x = x; y = y; z = z }) }
+        ensures { result ≡ sample_at self.entry.n self.entry.samples.now (record { x = x; y = y; z = z }) }
     {
         self.samples[(z * self.n + y) * self.n + x]
     }
@@ -51,7 +51,7 @@ impl Cell<'_> {
     // EDGE_CONNECTION has for edge e, along x, y or z.
     pub fn vertex_on(self, edge: usize) -> Vertex
         requires { edge < 12 }
-        ensures { result ≡ position_at self.n self.samples.now (record { x = self.x; y = self.y; z = self.z; edge = edge }) }
+        ensures { result ≡ position_at self.entry.n self.entry.samples.now (record { x = self.entry.x; y = self.entry.y; z = self.entry.z; edge = edge }) }
     {
         let x0 = self.x + offset(0x666, edge);
         let y0 = self.y + offset(0xCCC, edge);
@@ -78,7 +78,7 @@ impl Cell<'_> {
     // out.
     pub fn put_vertex(self, edge: usize, vertices: &mut [f32], number: u32)
         requires { edge < 12 }
-        ensures { vertices.new ≡ put_point vertices.old number (position_at self.n self.samples.now (record { x = self.x; y = self.y; z = self.z; edge = edge })) }
+        ensures { vertices.new ≡ put_point vertices.old number (position_at self.entry.n self.entry.samples.now (record { x = self.entry.x; y = self.entry.y; z = self.entry.z; edge = edge })) }
     {
         let at = 3 * (number as usize);
         if at + 2 < vertices.len() {

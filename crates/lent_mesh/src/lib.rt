@@ -7,7 +7,7 @@
 pub mod cell;
 
 ghost use Rattle.std.specs.Prelude.{◌≡◌, ◌+◌, ◌^◌, ◌≤◌, ◌<◌, length, set};
-ghost use Rattle.lent_mesh.specs.Stored.{Coordinates};
+ghost use Rattle.lent_mesh.specs.Cell.{Coordinates};
 
 // How many vertices and indices a run has come to after a cell: each vertex was made for an index.
 #[derive(Clone, Copy)]
