@@ -10,4 +10,4 @@ unfolding word_of
 loop-i-init c = refl
 
 pub loop-i-preserved : goal.loop-i-preserved
-loop-i-preserved c = sign-turn c.args.samples.now c.loop-i.i c.loop-i.word _ (omega arith) c.loop-i.invariant c.is_inside.ensures
+loop-i-preserved c = sign-turn c.args.samples.now c.loop-i.i c.loop-i.word c.from.result _ (omega arith) c.loop-i.invariant c.from.ensures c.is_inside.ensures
