@@ -15,23 +15,22 @@ use Rattle.walk.proofs.Rank.{place-lt}
 use Rattle.walk_models.specs.CacheMemory.{put_layer, put_row, clear_row}
 use Rattle.index_cache.specs.Found.{CacheRoom, found_all}
 
-pub room-kept : {n layer row : ℕ} (work next : List ℕ) → length next ≡ length work → CacheRoom n layer row work → CacheRoom n layer row next
-room-kept work next same h = record { most = h.most; layer-le = h.layer-le; row-le = h.row-le; room = omega (arith, h.room, same) }
+pub room-kept : {n : ℕ} (work next : List ℕ) → length next ≡ length work → CacheRoom n work → CacheRoom n next
+room-kept work next same h = record { most = h.most; room = omega (arith, h.room, same) }
 
 -- a place of a layer, and how many there are
 pub place-below : (n x y l : ℕ) → (n ≤ 128) × (x < n) × (y < n) × (l ≤ 1) → (y * n + x < n * n) × (n * n ≤ 16384)
 place-below n x y l h = (place-lt n x y h.1 h.2, mul-le-mul h.0 h.0)
 
 -- a store to the layer, then one to the row
-pub put-stored : (n x y l r e i at column place : ℕ) (w u t : List ℕ)
+pub put-stored : (n x y l r e i at place : ℕ) (w u t : List ℕ)
     → at ≡ 8 * (y * n + x) + 4 * l
     → u ≡ cond (in_layer e) (set w (at + (e - 4)) i) w
     → place ≡ 8 * (n * n) + 6 * x + 3 * r
-    → column ≡ put_column e
-    → t ≡ cond (ltb column 3) (set u (place + column) i) u
+    → t ≡ cond (ltb (put_column e) 3) (set u (place + put_column e) i) u
     → t ≡ put_row n r x e i (put_layer n l x y e i w)
 unfolding put_row put_layer
-put-stored n x y l r e i at column place w u t p q a b d = rw (d, b, a, q, p)
+put-stored n x y l r e i at place w u t p q a d = rw (d, a, q, p)
 
 -- seven reads
 pub found-read : (n x y l r a b : ℕ) (w : List ℕ)

@@ -34,6 +34,7 @@ fn row_place(n: usize, x: usize, row: usize) -> usize
 }
 
 // The column of `rows` that `put` writes for an edge, if any.
+#[tactic(auto, unfolding(walk::specs::Cache::put_column))]
 fn put_column(edge: usize) -> Option<usize>
     ensures { result ≡ cond (ltb (put_column edge) 3) (Some (put_column edge)) None }
 {
@@ -46,6 +47,7 @@ fn put_column(edge: usize) -> Option<usize>
 }
 
 // The four words of a place in a layer begin at `at`.
+#[tactic(auto, unfolding(walk::specs::Cache::in_layer))]
 fn put_layer(work: &mut [u32], at: usize, edge: usize, index: u32)
     requires { (at + 4 ≤ length work.old) × (at < 2 ^ 32) }
     ensures { work.new ≡ cond (in_layer edge) (set work.old (at + (edge - 4)) index) work.old }

@@ -1,9 +1,7 @@
 -- How a walk stores a vertex into a lent list of floats, and what its code may rely on. A private model, which the contracts of the walk's functions
 -- cite; the public contracts do not, and nobody need believe it.
-use Rattle.std.specs.Prelude.{cond, ◌≡◌, List, ℕ, ◌+◌, ◌*◌, ◌≤◌, ◌<◌, ltb, length, get_or, set, Float}
-use Rattle.std.specs.Float.{nan}
+use Rattle.std.specs.Prelude.{cond, List, ℕ, ◌+◌, ◌*◌, ltb, length, set, Float}
 use Rattle.marching_cubes_impl.specs.declared.vertex.Vertex.{Vertex}
-use Rattle.positions.specs.Position.{step_of, corner_of}
 use Rattle.walk.specs.Walk.{Visit}
 use Rattle.walk_models.specs.Lent.{Lent}
 use Rattle.lent_mesh.specs.declared.Counts.{Counts}
