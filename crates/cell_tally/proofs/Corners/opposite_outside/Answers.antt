@@ -6,11 +6,11 @@ use Rattle.corner_signs.specs.Signs.{differ, four}
 use Rattle.cell_tally.specs.Tally.{is_set}
 use Rattle.cell_tally.proofs.Tallies.{comes-plus, comes-set}
 use lib.Bits.{bit_and, bit_xor}
-use Rattle.cell_tally.proofs.opposite_outside.Goals as goal
+use Rattle.cell_tally.proofs.Corners.opposite_outside.Goals as goal
 
 pub returns : goal.returns
 returns c =
-    let k = c.args.c in
+    let k = c.args.self in
     let s1 = c.set_in.ensures in
     let s2 = c.set_in-2.ensures in (
       (comes-plus

@@ -10,7 +10,7 @@ use Rattle.cell_tally.specs.declared.Corners.{Corners}
 use Rattle.cell_tally.specs.Tally.{is_set, set_in, new_in}
 use Rattle.cell_tally.proofs.Tallies.{Comes, comes-plus, comes-set, new-comes}
 use lib.Bits.{bit_and, bit_xor}
-use Rattle.cell_tally.proofs.new_in.Goals as goal
+use Rattle.cell_tally.proofs.Corners.new_in.Goals as goal
 
 -- over plain variables: among the records of the walk `simp` is dear
 anywhere : {mask a : ℕ} (p q : ℕ) → a ≡ set_in (bit_xor p q) mask → Comes mask (λ i. bit (differ (is_set p i) (is_set q i))) a
@@ -41,54 +41,10 @@ new-edges k mask first top a₁ a₂ a₃ a₄ a₅ a₆ a₇ a₈ e₁ e₂ e�
     ).equal
     ∙ new-comes k mask first top
 
-pub overflow_add-inner : goal.overflow_add-inner
-overflow_add-inner c = omega (arith, c.set_in.ensures.1, c.set_in-2.ensures.1)
-
-pub overflow_add-inner-2 : goal.overflow_add-inner-2
-overflow_add-inner-2 c = omega (arith, c.set_in.ensures.1, c.set_in-2.ensures.1, c.set_in-3.ensures.1)
-
-pub overflow_add-left : goal.overflow_add-left
-overflow_add-left c = omega (arith, c.set_in-4.ensures.1, c.set_in-5.ensures.1)
-
-pub overflow_add-upper : goal.overflow_add-upper
-overflow_add-upper c = omega (arith, c.set_in-6.ensures.1, c.set_in-7.ensures.1)
-
-pub overflow_add-result : goal.overflow_add-result
-overflow_add-result c =
-    let s1 = c.set_in.ensures.1 in
-    let s2 = c.set_in-2.ensures.1 in
-    let s3 = c.set_in-3.ensures.1 in
-    let s4 = c.set_in-4.ensures.1 in
-    let s5 = c.set_in-5.ensures.1 in
-    omega (arith, s1, s2, s3, s4, s5)
-
-pub overflow_add-result-2 : goal.overflow_add-result-2
-overflow_add-result-2 c =
-    let s1 = c.set_in.ensures.1 in
-    let s2 = c.set_in-2.ensures.1 in
-    let s3 = c.set_in-3.ensures.1 in
-    let s4 = c.set_in-4.ensures.1 in
-    let s5 = c.set_in-5.ensures.1 in
-    let s6 = c.set_in-6.ensures.1 in
-    let s7 = c.set_in-7.ensures.1 in
-    omega (arith, s1, s2, s3, s4, s5, s6, s7)
-
-pub overflow_add-result-3 : goal.overflow_add-result-3
-overflow_add-result-3 c =
-    let s1 = c.set_in.ensures.1 in
-    let s2 = c.set_in-2.ensures.1 in
-    let s3 = c.set_in-3.ensures.1 in
-    let s4 = c.set_in-4.ensures.1 in
-    let s5 = c.set_in-5.ensures.1 in
-    let s6 = c.set_in-6.ensures.1 in
-    let s7 = c.set_in-7.ensures.1 in
-    let s8 = c.set_in-8.ensures.1 in
-    omega (arith, s1, s2, s3, s4, s5, s6, s7, s8)
-
 pub returns : goal.returns
 returns c =
     let args = c.args in (
-      new-edges args.c args.mask args.first args.top c.set_in.result c.set_in-2.result c.set_in-3.result c.set_in-4.result c.set_in-5.result c.set_in-6.result c.set_in-7.result c.set_in-8.result
+      new-edges args.self args.mask args.first args.top c.set_in.result c.set_in-2.result c.set_in-3.result c.set_in-4.result c.set_in-5.result c.set_in-6.result c.set_in-7.result c.set_in-8.result
           c.set_in.ensures.0 c.set_in-2.ensures.0 c.set_in-3.ensures.0 c.set_in-4.ensures.0 c.set_in-5.ensures.0 c.set_in-6.ensures.0 c.set_in-7.ensures.0 c.set_in-8.ensures.0,
       omega (arith, c.set_in.ensures.1, c.set_in-2.ensures.1, c.set_in-3.ensures.1, c.set_in-4.ensures.1, c.set_in-5.ensures.1, c.set_in-6.ensures.1, c.set_in-7.ensures.1, c.set_in-8.ensures.1),
     )

@@ -3,7 +3,7 @@ use mathlib.Core.Path.{refl}
 use native.Mathlib.Omega.{arith}
 use Rattle.cell_tally.specs.Tally.{is_set}
 use Rattle.cell_tally.proofs.Tallies.{comes-plus, comes-set}
-use Rattle.cell_tally.proofs.corners_inside.Goals as goal
+use Rattle.cell_tally.proofs.Corners.corners_inside.Goals as goal
 
 pub returns : goal.returns
 returns c =
@@ -15,7 +15,7 @@ returns c =
     let s6 = c.set_in-6.ensures in
     let s7 = c.set_in-7.ensures in
     let s8 = c.set_in-8.ensures in
-    let k = c.args.c in (
+    let k = c.args.self in (
       (comes-plus
           (comes-plus (comes-plus (comes-plus (comes-set k.c0 (λ i. is_set k.c0 i) s1.0 (λ i. refl)) (comes-set k.c1 (λ i. is_set k.c1 i) s2.0 (λ i. refl))) (comes-set k.c2 (λ i. is_set k.c2 i) s3.0 (λ i. refl))) (comes-set k.c3 (λ i. is_set k.c3 i) s4.0 (λ i. refl)))
           (comes-plus (comes-plus (comes-plus (comes-set k.c4 (λ i. is_set k.c4 i) s5.0 (λ i. refl)) (comes-set k.c5 (λ i. is_set k.c5 i) s6.0 (λ i. refl))) (comes-set k.c6 (λ i. is_set k.c6 i) s7.0 (λ i. refl))) (comes-set k.c7 (λ i. is_set k.c7 i) s8.0 (λ i. refl)))

@@ -9,7 +9,7 @@ use Rattle.cell_tally.specs.declared.Corners.{Corners}
 use Rattle.cell_tally.specs.Tally.{is_set, in_mask, set_in, of_signs}
 use Rattle.cell_tally.proofs.Tallies.{Comes, comes-plus, comes-set}
 use lib.Bits.{bit_and}
-use Rattle.cell_tally.proofs.faces_inside.Goals as goal
+use Rattle.cell_tally.proofs.Corners.faces_inside.Goals as goal
 
 -- over plain variables: among the records of the walk `simp` is dear
 face : {mask a : ℕ} (p q r s : ℕ) → a ≡ set_in (bit_and (bit_and (bit_and p q) r) s) mask
@@ -29,36 +29,9 @@ faces k mask z₀ z₁ y₀ y₁ x₀ x₁ e₁ e₂ e₃ e₄ e₅ e₆ =
     (comes-plus (face k.c0 k.c3 k.c4 k.c7 e₅) (face k.c1 k.c2 k.c5 k.c6 e₆))
     ).equal
 
-pub overflow_add-z : goal.overflow_add-z
-overflow_add-z c = omega (arith, c.set_in.ensures.1, c.set_in-2.ensures.1)
-
-pub overflow_add-y : goal.overflow_add-y
-overflow_add-y c = omega (arith, c.set_in-3.ensures.1, c.set_in-4.ensures.1)
-
-pub overflow_add-x : goal.overflow_add-x
-overflow_add-x c = omega (arith, c.set_in-5.ensures.1, c.set_in-6.ensures.1)
-
-pub overflow_add-result : goal.overflow_add-result
-overflow_add-result c =
-    let s1 = c.set_in.ensures.1 in
-    let s2 = c.set_in-2.ensures.1 in
-    let s3 = c.set_in-3.ensures.1 in
-    let s4 = c.set_in-4.ensures.1 in
-    omega (arith, s1, s2, s3, s4)
-
-pub overflow_add-result-2 : goal.overflow_add-result-2
-overflow_add-result-2 c =
-    let s1 = c.set_in.ensures.1 in
-    let s2 = c.set_in-2.ensures.1 in
-    let s3 = c.set_in-3.ensures.1 in
-    let s4 = c.set_in-4.ensures.1 in
-    let s5 = c.set_in-5.ensures.1 in
-    let s6 = c.set_in-6.ensures.1 in
-    omega (arith, s1, s2, s3, s4, s5, s6)
-
 pub returns : goal.returns
 returns c =
     let args = c.args in (
-      faces args.c args.mask c.set_in.result c.set_in-2.result c.set_in-3.result c.set_in-4.result c.set_in-5.result c.set_in-6.result c.set_in.ensures.0 c.set_in-2.ensures.0 c.set_in-3.ensures.0 c.set_in-4.ensures.0 c.set_in-5.ensures.0 c.set_in-6.ensures.0,
+      faces args.self args.mask c.set_in.result c.set_in-2.result c.set_in-3.result c.set_in-4.result c.set_in-5.result c.set_in-6.result c.set_in.ensures.0 c.set_in-2.ensures.0 c.set_in-3.ensures.0 c.set_in-4.ensures.0 c.set_in-5.ensures.0 c.set_in-6.ensures.0,
       omega (arith, c.set_in.ensures.1, c.set_in-2.ensures.1, c.set_in-3.ensures.1, c.set_in-4.ensures.1, c.set_in-5.ensures.1, c.set_in-6.ensures.1),
     )
