@@ -4,6 +4,7 @@
 #![tactic(auto)]
 
 ghost use Rattle.std.specs.Prelude.{◌≡◌, cond, map, ℕ, ◌+◌, ◌*◌, ◌≤◌, ◌<◌, eqb, length, get_or, replicate};
+ghost use Rattle.numbering.specs.Word.{word_of};
 ghost use Rattle.walk.specs.Walk.{visits};
 ghost use Rattle.lent_mesh.specs.Grid.{inside_of, position_at, floats_of};
 ghost use Rattle.grid_walk.specs.Growth.{GrowsWithin};
@@ -11,19 +12,15 @@ ghost use Rattle.held_bits.specs.HeldCell.{held_room};
 ghost use Rattle.outcome.specs.Outcome.{work_room, surface_of, over};
 ghost use Rattle.passes.specs.Accepted.{Accepted};
 
-use grid_count::Reach;
-use grid_walk::Span;
+use grid_walk::{Reach, Span};
+use numbering::Numbering;
 
 // The first `count` words become 0.
 fn clear(work: &mut [u32], count: usize)
     requires { count ≤ length work.old }
     ensures { work.new ≡ over (replicate count 0) work.old }
 {
-    let mut i: usize = 0;
-    while i < count {
-        work[i] = 0;
-        i += 1;
-    }
+    work[..count].fill(0);
 }
 
 // The words of working memory that a size asks for.
@@ -43,23 +40,23 @@ fn held_room(n: usize) -> usize
 }
 
 // The crate numbering is counted from nothing held; the joined uses no working memory for its count.
-fn hold_nothing(numbering: u32, work: &mut [u32], n: usize)
+fn hold_nothing(numbering: Numbering, work: &mut [u32], n: usize)
     requires { (n ≤ 128) × (held_room n ≤ length work.old) }
-    ensures { work.new ≡ cond (eqb numbering 0) (over (replicate (held_room n) 0) work.old) work.old }
+    ensures { work.new ≡ cond (eqb (word_of numbering) 0) (over (replicate (held_room n) 0) work.old) work.old }
 {
-    if numbering == 0 {
+    if let Numbering::Crate = numbering {
         clear(work, held_room(n));
     }
 }
 
 // How many vertices and indices the grid has, and the layers in which they are. The working memory that
 // the size asks for is zero afterwards, whatever it held.
-pub fn count(numbering: u32, samples: &[f32], n: usize, work: &mut [u32]) -> Reach
+pub fn count(numbering: Numbering, samples: &[f32], n: usize, work: &mut [u32]) -> Reach
     requires { Accepted n samples.now work.old }
     ensures work_after { work.new ≡ over (replicate (work_room n) 0) work.old }
-    ensures made_value { (result.counts.made ≡ length (surface_of n numbering samples.now).made) × (result.counts.written ≡ length (surface_of n numbering samples.now).indices) }
+    ensures made_value { (result.counts.made ≡ length (surface_of n (word_of numbering) samples.now).made) × (result.counts.written ≡ length (surface_of n (word_of numbering) samples.now).indices) }
     ensures grows_within { GrowsWithin (λ k. length (visits (inside_of n samples.now) n k)) n result.span }
-    ensures written_bound { (result.counts.written ≤ 31211520) × (result.counts.made ≤ result.counts.written) }
+    ensures written_bound { result.counts.written ≤ 31211520 }
 {
     let room = work_room(n);
     hold_nothing(numbering, work, n);
@@ -71,7 +68,7 @@ pub fn count(numbering: u32, samples: &[f32], n: usize, work: &mut [u32]) -> Rea
 // The mesh is written, where there is room for it and the working memory is zero. Only the layers of the
 // span are walked.
 pub fn fill(
-    numbering: u32,
+    numbering: Numbering,
     samples: &[f32],
     n: usize,
     span: Span,
@@ -81,10 +78,10 @@ pub fn fill(
 )
     requires accepted { Accepted n samples.now work.old × ((i : ℕ) → i < work_room n → get_or work.old i 0 ≡ 0) }
     requires grows_within { GrowsWithin (λ k. length (visits (inside_of n samples.now) n k)) n span }
-    requires samples_in_bounds { (3 * length (surface_of n numbering samples.now).made ≤ length vertices.old) × (length (surface_of n numbering samples.now).indices ≤ length indices.old) }
+    requires samples_in_bounds { (3 * length (surface_of n (word_of numbering) samples.now).made ≤ length vertices.old) × (length (surface_of n (word_of numbering) samples.now).indices ≤ length indices.old) }
     ensures work_after { work.new ≡ over (replicate (work_room n) 0) work.old }
-    ensures vertices_after { vertices.new ≡ over (floats_of (map (position_at n samples.now) (surface_of n numbering samples.now).made)) vertices.old }
-    ensures indices_after { indices.new ≡ over (surface_of n numbering samples.now).indices indices.old }
+    ensures vertices_after { vertices.new ≡ over (floats_of (map (position_at n samples.now) (surface_of n (word_of numbering) samples.now).made)) vertices.old }
+    ensures indices_after { indices.new ≡ over (surface_of n (word_of numbering) samples.now).indices indices.old }
 {
     let room = work_room(n);
     grid_walk::walk(numbering, samples, n, span, work, vertices, indices);
