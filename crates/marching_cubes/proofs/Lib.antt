@@ -1,3 +1,4 @@
 pub mod ByCause
 mod AfterCount
+mod Known
 pub mod Demands
