@@ -1,43 +1,50 @@
--- The row of a regular cell, named three edges at a time. For `name_all`.
-use mathlib.Core.Path.{◌≡◌, sym, ap, ap₂, ◌∙◌}
+-- The row of a regular cell: the numbers of its edges, put as indices triangle by triangle, are what naming edge by edge puts. For `regular_visits`.
+use mathlib.Core.Path.{◌≡◌, refl, sym, ap, ap₂, ◌∙◌}
 use mathlib.Core.List.{List, [], ◌∷◌}
-use Prim.Native.Nat.{ℕ, ◌+◌}
+use Prim.Native.Nat.{ℕ, ◌+◌, ◌*◌}
+use native.Mathlib.Nat.{add-zero}
 use native.Mathlib.Omega.{arith}
-use lib.ListN.{get_or, set}
+use lib.ListN.{length, get_or, set}
 use lib.Ieee.{Float}
 use Rattle.walk.proofs.OwnedCells.{fold, times-fold}
 use Rattle.walk_models.specs.Lent.{Lent}
 use Rattle.walk_models.specs.CacheMemory.{CacheMemory}
-use Rattle.packed_tables.specs.Unpacked.{edges_of}
+use Rattle.packed_tables.specs.Listed.{numbers_put}
+use Rattle.packed_tables.specs.Unpacked.{unpacked, triangles, edges_of}
+use Rattle.packed_tables.proofs.PackedEdges.{edges-of-triangles, triangles-length}
 use Rattle.held_visits.specs.CellMemory.{in_cell, hand}
 use Rattle.regular_cells.specs.RegularCell.{name_held, name_edges}
 
-abbrev State : Type 0
-State = Lent CacheMemory (List Float)
-
--- from the state s the triangles `left` are still to be named, which leads to where the edges `all` lead from the state t
-abbrev pub ToName : List (ℕ × ℕ × ℕ) → State → List ℕ → State → Type 0
-ToName left s all t = fold name_held (edges_of left) s ≡ fold name_held all t
-
-pub all-named : (left : List (ℕ × ℕ × ℕ)) (all : List ℕ) (s t : State) → left ≡ [] → ToName left s all t → s ≡ name_edges all t
-unfolding fold edges_of name_edges
-all-named left all s t h inv =
-    sym (ap (λ (ts : List (ℕ × ℕ × ℕ)). fold name_held (edges_of ts) s) h) ∙ inv ∙ sym (times-fold name_held 0 all t)
-
 module _ (work : List ℕ) (layer row : ℕ) (current : List ℕ) (b : List Float) (made : ℕ) where
-  abbrev now : List ℕ → ℕ → State
+  abbrev now : List ℕ → ℕ → Lent CacheMemory (List Float)
   now indices written = hand (in_cell work layer row current) b indices made written
 
-  pub triangle-named : (i j k : ℕ) (left rest : List (ℕ × ℕ × ℕ)) (all : List ℕ) (written : ℕ) (indices after : List ℕ) (t : State)
-      → left ≡ (i, j, k) ∷ rest
-      → after ≡ set (set (set indices written (get_or current i 0)) (written + 1) (get_or current j 0)) (written + 2) (get_or current k 0)
-      → ToName left (now indices written) all t
-      → ToName rest (now after (written + 3)) all t
-  unfolding fold edges_of name_held
-  triangle-named i j k left rest all written indices after t h e inv =
-      let two : List ℕ = set (set indices written (get_or current i 0)) (written + 1) (get_or current j 0) in
-      let same : after ≡ set two (written + 1 + 1) (get_or current k 0) = e ∙ ap (λ (w : ℕ). set two w (get_or current k 0)) (omega arith) in
+  abbrev number : ℕ → ℕ
+  number e = get_or current e 0
+
+  triangles-named : (list : List (ℕ × ℕ × ℕ)) (indices : List ℕ) (written : ℕ)
+      → now (numbers_put number list written indices) (written + 3 * length list) ≡ fold name_held (edges_of list) (now indices written)
+  unfolding fold edges_of name_held numbers_put
+  triangles-named [] indices written = ap (now indices) (add-zero written)
+  triangles-named ((i, j, k) ∷ list) indices written =
+      let two : List ℕ = set (set indices written (number i)) (written + 1) (number j) in
+      let three : List ℕ = set two (written + 2) (number k) in
+      let more : written + 3 * length ((i, j, k) ∷ list) ≡ written + 3 + 3 * length list = omega arith in
+      let same : three ≡ set two (written + 1 + 1) (number k) = ap (λ (w : ℕ). set two w (number k)) (omega arith) in
       let grown : written + 3 ≡ written + 1 + 1 + 1 = omega arith in
-      ap₂ (λ (m : List ℕ) (w : ℕ). fold name_held (edges_of rest) (now m w)) same grown
-      ∙ sym (ap (λ (ts : List (ℕ × ℕ × ℕ)). fold name_held (edges_of ts) (now indices written)) h)
-      ∙ inv
+      ap (now (numbers_put number list (written + 3) three)) more
+      ∙ triangles-named list three (written + 3)
+      ∙ ap₂ (λ (m : List ℕ) (w : ℕ). fold name_held (edges_of list) (now m w)) same grown
+
+  pub row-named : (count word : ℕ) (indices after : List ℕ) (written reached : ℕ)
+      → after ≡ numbers_put number (triangles count word) written indices
+      → reached ≡ written + 3 * count
+      → now after reached ≡ name_edges (unpacked (3 * count) word) (now indices written)
+  unfolding name_edges
+  row-named count word indices after written reached e h =
+      let list : List (ℕ × ℕ × ℕ) = triangles count word in
+      let es : List ℕ = unpacked (3 * count) word in
+      ap₂ now e (h ∙ ap (λ (k : ℕ). written + 3 * k) (sym (triangles-length count word)))
+      ∙ triangles-named list indices written
+      ∙ ap (λ (ds : List ℕ). fold name_held ds (now indices written)) (edges-of-triangles count word)
+      ∙ sym (times-fold name_held 0 es (now indices written))
