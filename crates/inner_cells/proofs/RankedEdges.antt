@@ -6,7 +6,7 @@ use Prim.Native.Nat.{ℕ, suc, ◌+◌, ◌-◌, ◌*◌, ◌/◌, ◌%◌, ◌<
 use native.Mathlib.Nat.{add-zero, zero-add}
 use native.Mathlib.Omega.{arith}
 use lib.Dec.{T, eqb, ltb}
-use lib.ListN.{length, get_or, set}
+use lib.ListN.{length, set}
 use lib.Seq.{set_comm}
 use borrow.Author.Tests.{eq-eqb, ltb-true}
 use Rattle.marching_cubes_tables.proofs.Tests.{both_left, both_right}
@@ -19,7 +19,7 @@ use Rattle.walk_models.specs.Owned.{edge_visit, slot, make_edge}
 use Rattle.walk_models.proofs.AnyOrder.{ranked_from, ranked, apart, sorted, all_free, fold-sorted}
 use Rattle.walk_models.proofs.Window.{Live, edge_of-live, slot-injective}
 use Rattle.packed_tables.specs.Unpacked.{Edges, marked}
-use Rattle.joined_slots.specs.OneCell.{SlotsFrom, each}
+use Rattle.joined_slots.specs.OneCell.{each}
 use Rattle.inner_cells.specs.Ranked.{make_ranked, hand}
 
 -- ---- two lists, one after the other
@@ -88,16 +88,16 @@ module _ {B : Type 0} (store : Visit → ℕ → B → B) (n x y z : ℕ) where
   unfolding each times
   marked-absent e mark w h = let none : mark ≡ 0 = omega arith in rw none
 
-  pub marked-present : (at e mark made written : ℕ) (slots work l v : List ℕ) (b c : B) → SlotsFrom at slots n x y z → e < 12 → 0 < mark
-      → v ≡ set work (at + get_or slots e 0) (made + (mark - 1)) → c ≡ store (edge_visit x y z e) (made + (mark - 1)) b
+  pub marked-present : (e mark made written at : ℕ) (work l v : List ℕ) (b c : B) → at ≡ place e → e < 12 → 0 < mark
+      → v ≡ set work at (made + (mark - 1)) → c ≡ store (edge_visit x y z e) (made + (mark - 1)) b
       → hand v c l made written ≡ each by_rank (marked e mark) (hand work b l made written)
   unfolding each times make_ranked
-  marked-present at e mark made written slots work l v b c places he some ev ec =
+  marked-present e mark made written at work l v b c ep he some ev ec =
       let rank : ℕ = mark - 1 in
       let is : mark ≡ suc rank = omega arith in
       let edge-is : (e + 16 * rank) % 16 ≡ e = omega arith in
       let rank_is : (e + 16 * rank) / 16 ≡ rank = omega arith in
-      ap₂ (λ (m : List ℕ) (d : B). hand m d l made written) (ev ∙ ap (λ (k : ℕ). set work k (made + rank)) (places e he)) ec
+      ap₂ (λ (m : List ℕ) (d : B). hand m d l made written) (ev ∙ ap (λ (k : ℕ). set work k (made + rank)) ep) ec
       ∙ ap₂ (λ (i r : ℕ). hand (set work (place i) (made + r)) (store (edge_visit x y z i) (made + r) b) l made written) (sym edge-is) (sym rank_is)
       ∙ ap (λ (k : ℕ). each by_rank (marked e k) (hand work b l made written)) (sym is)
 

@@ -16,10 +16,9 @@ use Rattle.walk_models.specs.Lent.{Lent}
 use Rattle.walk_models.specs.Owned.{cell_new, make_edge, name_edge, owned_cell, Count, count_cell}
 use Rattle.packed_tables.specs.Unpacked.{Edges}
 use Rattle.packed_tables.specs.Packed.{owned_in, row_words, new_words}
-use Rattle.packed_tables.proofs.PackedEdges.{edges-of-each}
+use Rattle.packed_tables.proofs.PackedEdges.{edges-of-each, unpacked-length}
 use Rattle.packed_tables.proofs.Words.{in_threes, one_by_one, indices_of, row_word, new_word, new-word-row}
 use Rattle.joined_slots.specs.OneCell.{each, class_of}
-use Rattle.joined_edges.proofs.PackedSteps.{unpacked-length}
 use Rattle.joined_edges.proofs.NewEdges.{new_edges-edges}
 
 -- ---- by class and sign byte
@@ -56,18 +55,18 @@ words-hold class s row fresh hs er en ei =
       same-indices = ei ∙ row_count;
     }
 
--- how far the counts go with them, by what each pass says of them
-pub counts-grown : (class s row fresh made written made_all IsWritten-then made-now written-now : ℕ) → Words class s row fresh → made ≤ written
-    → made_all ≡ made + length (new_edges (owned_in class) (row_edges s)) → IsWritten-then ≡ written → made-now ≡ made_all → written-now ≡ IsWritten-then + 3 * (row / 2 ^ 60)
+-- how far the counts go with them
+pub counts-grown : (class s row fresh made written made-now written-now : ℕ) → Words class s row fresh → made ≤ written
+    → made-now ≡ made + length (new_edges (owned_in class) (row_edges s)) → written-now ≡ written + 3 * (row / 2 ^ 60)
     → (made-now ≤ written-now) × (written-now ≤ written + 15)
-counts-grown class s row fresh made written made_all IsWritten-then made-now written-now w h a b d e =
+counts-grown class s row fresh made written made-now written-now w h a b =
     let most = w.row-most in
     let fewer = w.new-most in
     let count = w.new-count in
     (omega arith, omega arith)
 
 -- as the code reads them
-pub words : (class s fresh : ℕ) (rows news : List ℕ) → class < 8 → s < 256 → rows ≡ row_words → news ≡ new_words
+words : (class s fresh : ℕ) (rows news : List ℕ) → class < 8 → s < 256 → rows ≡ row_words → news ≡ new_words
     → fresh ≡ get_or news (256 * class + s) 0 → Words class s (get_or rows s 0) fresh
 words class s fresh rows news hc hs er en ef =
     let known : fresh ≡ get_or new_words (256 * class + s) 0 = ef ∙ ap (λ (l : List ℕ). get_or l (256 * class + s) 0) en in
@@ -75,6 +74,11 @@ words class s fresh rows news hc hs er en ef =
     (ap (λ (l : List ℕ). in_threes (get_or l s 0)) er ∙ row_word s hs)
     (ap one_by_one known ∙ new_word class s hc hs)
     (ap indices_of known ∙ new-word-row class s hc hs)
+
+-- where the row's own word is not read
+pub new-words : (class s fresh : ℕ) (news : List ℕ) → (news ≡ new_words) × (s < 256) × (class < 8) → fresh ≡ get_or news (256 * class + s) 0
+    → Words class s (get_or row_words s 0) fresh
+new-words class s fresh news known e = words class s fresh row_words news known.2 known.1 refl known.0 e
 
 -- ---- of a cell
 
@@ -103,6 +107,11 @@ class-owned x y z class e = class-of-bits class (eqb x 0) (eqb y 0) (eqb z 0) (o
 
 pub case-lt : (g : Inside) (x y z s : ℕ) → s ≡ signs g x y z → s < 256
 case-lt g x y z s e = subst (λ (k : ℕ). k < 256) (sym e) (signs-lt g x y z)
+
+pub cell-words : (g : Inside) (x y z class s : ℕ) (rows news : List ℕ) → rows ≡ row_words → news ≡ new_words → s ≡ signs g x y z → class ≡ class_of x y z
+    → Words class s (get_or rows s 0) (get_or news (256 * class + s) 0)
+cell-words g x y z class s rows news er en es ec =
+    words class s (get_or news (256 * class + s) 0) rows news (class-lt x y z class ec) (case-lt g x y z s es) er en refl
 
 module _ (g : Inside) (x y z class s row fresh : ℕ) (es : s ≡ signs g x y z) (ec : class ≡ class_of x y z) (w : Words class s row fresh) where
   row-of-cell : in_threes row ≡ cell_edges g x y z

@@ -2,6 +2,7 @@
 use mathlib.Core.Path.{◌≡◌, subst, sym}
 use mathlib.Core.List.{List, [], ◌∷◌}
 use Prim.Native.Nat.{ℕ, zero, suc, ◌+◌, ◌-◌, ◌*◌, ◌%◌, ◌<◌, ◌≤◌}
+use native.Mathlib.Nat.{mul-le-mul}
 use native.Mathlib.Omega.{arith}
 use lib.ListN.{get_or}
 use Rattle.marching_cubes_tables.specs.Tables.{corners, edge_connection}
@@ -39,11 +40,14 @@ pub slots-from : (at n x y z : ℕ) (l : List ℕ) → Slots n z l → at ≡ 8 
 unfolding Slots
 slots-from at n x y z l h e = subst (λ (k : ℕ). SlotsFrom k l n x y z) (sym e) (h x y)
 
--- in a working memory of so many words, and as many later
-pub slot-in-work : (at n x y z e size kept : ℕ) (slots : List ℕ) → SlotsFrom at slots n x y z → x + 1 < n → y + 1 < n
-    → 8 * (n * n) ≤ size → kept ≡ size → e < 12 → at + get_or slots e 0 < kept
-slot-in-work at n x y z e size kept slots places hx hy room same he =
+-- those of a cell of the grid are among the first words of the working memory, eight for each place
+pub slot-in-work : (at n x y z e : ℕ) (slots : List ℕ) → SlotsFrom at slots n x y z → x + 1 < n → y + 1 < n → e < 12 → at + get_or slots e 0 < 8 * (n * n)
+slot-in-work at n x y z e slots places hx hy he =
     let live = edge_of-live n x y z e (omega arith) (omega arith) he in
     let l = slot_lt n z (edge_of (edge_visit x y z e)) live in
     let p = places e he in
     omega arith
+
+-- which are few enough to be counted
+pub slot-small : (n place : ℕ) → n ≤ 128 → place < 8 * (n * n) → place < 131072
+slot-small n place h l = let most : n * n ≤ 128 * 128 = mul-le-mul h h in omega arith

@@ -3,6 +3,8 @@
 
 #![tactic(auto)]
 
+pub mod slot_cell;
+
 ghost use Rattle.std.specs.Prelude.{◌≡◌, ℕ, ◌≤◌, eqb};
 ghost use Rattle.walk.specs.Walk.{bit};
 ghost use Rattle.joined_slots.specs.OneCell.{Slots, class_of};

@@ -1,39 +1,19 @@
--- `inner::make_inner`: the upper plane's edges and then the one along z are the list of pairs.
-use mathlib.Core.Path.{refl, sym, subst}
-use Prim.Native.Nat.{ℕ, ◌*◌, ◌/◌, ◌%◌, ◌^◌, ◌≤◌}
-use native.Mathlib.Omega.{arith}
+-- `make_inner`: the upper plane's edges and then the one along z are the list of pairs.
+use Prim.Native.Nat.{◌/◌, ◌%◌, ◌^◌}
 use Rattle.packed_tables.specs.Unpacked.{marked, upper_marked}
-use Rattle.lent_mesh.specs.Stored.{store_at, in_hand}
-use Rattle.inner_cells.specs.Ranked.{make_ranked}
+use Rattle.lent_mesh.specs.Stored.{store_at}
+use Rattle.inner_cells.specs.Ranked.{make_ranked, hand}
 use Rattle.inner_cells.proofs.RankedEdges.{each_both}
 use Rattle.inner_cells.proofs.make_inner.Goals as goal
 
-pub make_upper-requires : goal.make_upper-requires
-make_upper-requires c =
-    record {
-      cell_of = c.requires.cell_of;
-      coordinates = c.requires.coordinates;
-      n_in_bounds = (c.requires.n_in_bounds.0, c.requires.n_in_bounds.1);
-    }
-
-pub make_marked-requires : goal.make_marked-requires
-make_marked-requires c =
-    let room = subst (λ (k : ℕ). 8 * (c.args.n * c.args.n) ≤ k) (sym c.work-1.given) c.requires.n_in_bounds.0 in
-    record {
-      cell_of = c.requires.cell_of;
-      coordinates = c.requires.coordinates;
-      edge_bound = (omega arith, omega arith);
-      n_in_bounds = (room, c.requires.n_in_bounds.1);
-    }
-
-pub returns : goal.returns
-returns c =
+pub returns-clause-by_index : goal.returns-clause-by_index
+returns-clause-by_index c =
     let args = c.args in
-    let written = args.counts.written in
-    record {
-      by_index = λ l.
-          each_both (make_ranked (store_at args.n args.samples.now) args.n args.z args.y args.x)
-          (upper_marked args.word) (marked 10 (args.word / 2 ^ 24 % 16)) (in_hand args.work.now args.vertices.now l args.counts) _ _
-          (c.make_upper.ensures l written) (c.make_marked.ensures l written);
-      made_value = (refl, refl);
-    }
+    let cell = args.here.cell in
+    let word = args.word in
+    let make = make_ranked (store_at cell.n cell.samples.now) cell.n cell.z cell.y cell.x in
+    λ l written.
+    each_both make (upper_marked word) (marked 10 (word / 2 ^ 24 % 16)) (hand args.work.now args.vertices.now l args.made written) _ _
+    (each_both make (marked 5 (word / 2 ^ 16 % 16)) (marked 6 (word / 2 ^ 20 % 16)) (hand args.work.now args.vertices.now l args.made written) _ _
+    (c.make_marked.ensures l written) (c.make_marked-2.ensures l written))
+    (c.make_marked-3.ensures l written)

@@ -1,22 +1,23 @@
--- `name_all`: what is left of the list, named from here, is the whole of it named from the start. A turn names three edges.
+-- `name_all`: what is left of the triangles, named from here, is the whole of them named from the start.
 use mathlib.Core.Path.{◌≡◌}
 use mathlib.Core.List.{List}
-use Prim.Native.Nat.{ℕ, ◌+◌, ◌*◌, ◌≤◌}
-use lib.ListN.{length}
+use Prim.Native.Nat.{ℕ, ◌+◌, ◌*◌}
 use lib.Ieee.{Float}
 use Rattle.walk.specs.Walk.{Visit}
 use Rattle.walk_models.specs.Owned.{name_edge}
-use Rattle.packed_tables.specs.Unpacked.{unpacked, Edges}
-use Rattle.joined_slots.specs.OneCell.{SlotsFrom, each}
+use Rattle.packed_tables.specs.Unpacked.{triangles, edges_of}
+use Rattle.joined_slots.specs.OneCell.{each}
 use Rattle.inner_cells.specs.Ranked.{hand}
 use Rattle.joined_edges.proofs.name_all.Given as goal
 
-abbrev pub invariant-loop-left : goal.invariant-loop-left
-invariant-loop-left l =
-    (l.written + 3 * l.left ≡ l.initial.written + 3 * l.triangles) × (l.left ≤ 5) × Edges (unpacked (3 * l.left) l.rest) × (length l.indices ≡ length l.initial.indices)
-    × ((n x y z : ℕ) (store : Visit → ℕ → List Float → List Float) (b : List Float) → SlotsFrom l.at l.slots n x y z
-    → each (name_edge store n z y x) (unpacked (3 * l.left) l.rest) (hand l.work b l.indices l.made l.written)
-    ≡ each (name_edge store n z y x) (unpacked (3 * l.triangles) l.list) (hand l.work b l.initial.indices l.made l.initial.written))
-
-abbrev pub decreases-loop-left : goal.decreases-loop-left
-decreases-loop-left l = l.left
+abbrev pub invariant-loop-first : goal.invariant-loop-first
+invariant-loop-first l =
+    let cell = l.here.cell in
+    let all = l.fn.list in
+    let rest = l.first-iterator in
+    record {
+      counted : l.written + 3 * rest.count ≡ l.initial.written + 3 * all.count;
+      whole : (store : Visit → ℕ → List Float → List Float) (b : List Float) (made : ℕ)
+          → each (name_edge store cell.n cell.z cell.y cell.x) (edges_of (triangles rest.count rest.word)) (hand l.work b l.indices made l.written)
+          ≡ each (name_edge store cell.n cell.z cell.y cell.x) (edges_of (triangles all.count all.word)) (hand l.work b l.initial.indices made l.initial.written);
+    }
