@@ -4,7 +4,7 @@ use native.Mathlib.Omega.{arith}
 use lib.ListN.{get_or}
 use Rattle.std.proofs.Common.{rules}
 use Rattle.packed_tables.proofs.Words.{in_threes}
-use Rattle.regular_cells.proofs.NamedRow.{row-named}
+use Rattle.regular_cells.proofs.NamedRow.{row-held}
 use Rattle.regular_cells.proofs.RegularRow.{row-known, row-most, row-regular, row-fewer, row-absent}
 use Rattle.regular_cells.proofs.RegularVisits.{regular-visited}
 use Rattle.regular_cells.proofs.regular_visits.Goals as goal
@@ -33,6 +33,6 @@ returns-clause-result_after c =
     args.parity.layer args.parity.row args.work.now current args.vertices.now args.indices.now args.counts _ _ _ _ c.put_numbers-written.result
     (row-regular regular word current row) (row-known regular word current row) (row-absent regular word current row) c.requires.made_nonzero.0 row.twelve
     c.make_regular.ensures
-    (row-named _ args.parity.layer args.parity.row held _ _ (word / 2 ^ 60) (word % 2 ^ 60) args.indices.now _ args.counts.written c.put_numbers-written.result
+    (row-held _ args.parity.layer args.parity.row held _ _ (word / 2 ^ 60) (word % 2 ^ 60) args.indices.now _ args.counts.written c.put_numbers-written.result
     (c.put_numbers-written.ensures.by_number (λ e. get_or held e 0) (λ e k below told. search rules))
     c.put_numbers-written.ensures.place_value)
