@@ -3,7 +3,6 @@
 use mathlib.Core.Path.{◌≡◌, refl, sym, ap, ap₂, ◌∙◌, subst}
 use mathlib.Core.List.{List, [], ◌∷◌}
 use Prim.Native.Nat.{ℕ, suc, ◌+◌, ◌*◌, ◌<◌}
-use native.Mathlib.Omega.{arith}
 use lib.ListN.{length, get_or, set}
 use Rattle.walk.specs.Walk.{Visit, times}
 use Rattle.walk.specs.Edges.{edge_of}

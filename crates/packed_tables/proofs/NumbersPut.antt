@@ -1,6 +1,6 @@
 -- The numbers of the edges of some triangles, put one triangle after the other: for `put_numbers`; and that edge by edge it is the same, for whoever calls
 -- it to name a row.
-use mathlib.Core.Path.{◌≡◌, refl, sym, ap, ap₂, ◌∙◌}
+use mathlib.Core.Path.{◌≡◌, sym, ap, ap₂, ◌∙◌}
 use mathlib.Core.List.{List, [], ◌∷◌}
 use Prim.Native.Nat.{ℕ, ◌+◌, ◌*◌}
 use native.Mathlib.Nat.{add-zero}

@@ -1,10 +1,10 @@
 -- `put_numbers`: what is left of the triangles, put from here, is the whole of them put from the start.
-use mathlib.Core.Path.{refl, sym, ap, ◌∙◌}
+use mathlib.Core.Path.{ap, ◌∙◌}
 use mathlib.Core.List.{List}
-use Prim.Native.Nat.{ℕ, ◌+◌, ◌*◌}
+use Prim.Native.Nat.{ℕ}
 use native.Mathlib.Omega.{arith}
 use lib.ListN.{length}
-use Rattle.packed_tables.specs.Listed.{triangles_left, numbers_put}
+use Rattle.packed_tables.specs.Listed.{triangles_left}
 use Rattle.packed_tables.proofs.PackedEdges.{triangle-known, triangles-length}
 use Rattle.packed_tables.proofs.NumbersPut.{turn-put, all-put}
 use Rattle.packed_tables.proofs.edges.PackedTriangles.put_numbers.Goals as goal
