@@ -4,37 +4,17 @@
 
 #![tactic(auto)]
 
-ghost use Rattle.std.specs.Prelude.{◌≡◌, List, ℕ, ◌+◌, ◌*◌, ◌/◌, ◌%◌, ◌^◌, ◌<◌, Float};
+ghost use Rattle.std.specs.Prelude.{◌≡◌, ◌+◌, ◌*◌, ◌/◌, ◌%◌, ◌^◌, ◌<◌};
 ghost use Rattle.packed_tables.specs.Unpacked.{unpacked};
 ghost use Rattle.lent_mesh.specs.Stored.{in_hand};
 ghost use Rattle.index_cache.specs.Found.{CacheRoom};
-ghost use Rattle.held_visits.specs.CellMemory.{in_cell, hand, held_edges};
-ghost use Rattle.regular_cells.specs.RegularCell.{is_regular, RegularOf, name_edges};
+ghost use Rattle.held_visits.specs.CellMemory.{in_cell, held_edges};
+ghost use Rattle.regular_cells.specs.RegularCell.{is_regular, RegularOf};
 
 use index_cache::Parity;
 use lent_mesh::Counts;
 use lent_mesh::cell::Cell;
 use packed_tables::edges::PackedTriangles;
-
-// The numbers of the edges of the triangles are the next indices, three at a time. Gives how many are written then.
-fn name_all(
-    current: &[u32; 12],
-    triangles: PackedTriangles,
-    indices: &mut [u32],
-    written: u32,
-) -> u32
-    requires { written + 3 * triangles.count < 2 ^ 32 }
-    ensures by_index { (work : List ℕ) (layer row : ℕ) (b : List Float) (made : ℕ) → hand (in_cell work layer row current.now) b indices.new made result
-        ≡ name_edges (unpacked (3 * triangles.count) triangles.word) (hand (in_cell work layer row current.now) b indices.old made written) }
-    ensures written_value { result ≡ written + 3 * triangles.count }
-{
-    let mut place = written;
-    for (a, b, c) in triangles {
-        lent_mesh::put_three(indices, place, current[a], current[b], current[c]);
-        place += 3;
-    }
-    place
-}
 
 // Whether a cell is regular: each term is the bit of an edge that is not as a regular cell has it.
 pub fn is_regular(regular: u64, current: &[u32; 12]) -> bool
@@ -74,7 +54,7 @@ pub fn regular_visits(
         count: word >> 60,
         word: word % 0x1000_0000_0000_0000,
     };
-    let written = name_all(current, triangles, indices, counts.written);
+    let written = triangles.put_numbers(|edge| current[edge], indices, counts.written);
     Counts {
         made: counts.made + (((regular >> 12) % 16) as u32),
         written,
