@@ -11,14 +11,7 @@ ghost use Rattle.cell_tally.specs.Tally.{in_mask, is_set, of_signs, triangles_in
 // A word of signs for each corner of a cell, in the order of CORNERS: bit i is that of cell i.
 #[derive(Clone, Copy)]
 pub struct Corners {
-    pub c0: u32,
-    pub c1: u32,
-    pub c2: u32,
-    pub c3: u32,
-    pub c4: u32,
-    pub c5: u32,
-    pub c6: u32,
-    pub c7: u32,
+    pub signs: [u32; 8],
 }
 
 // The bits of a word that the mask has too.
@@ -33,16 +26,7 @@ impl Corners {
     fn corners_inside(self, mask: u32) -> u32
         ensures { (result ≡ in_mask mask (of_signs inside_at self)) × (result ≤ 256) }
     {
-        let Corners {
-            c0,
-            c1,
-            c2,
-            c3,
-            c4,
-            c5,
-            c6,
-            c7,
-        } = self;
+        let [c0, c1, c2, c3, c4, c5, c6, c7] = self.signs;
         let low = set_in(c0, mask) + set_in(c1, mask) + set_in(c2, mask) + set_in(c3, mask);
         let high = set_in(c4, mask) + set_in(c5, mask) + set_in(c6, mask) + set_in(c7, mask);
         low + high
@@ -52,16 +36,7 @@ impl Corners {
     fn faces_inside(self, mask: u32) -> u32
         ensures { (result ≡ in_mask mask (of_signs faces_at self)) × (result ≤ 192) }
     {
-        let Corners {
-            c0,
-            c1,
-            c2,
-            c3,
-            c4,
-            c5,
-            c6,
-            c7,
-        } = self;
+        let [c0, c1, c2, c3, c4, c5, c6, c7] = self.signs;
         let z = set_in(c0 & c1 & c2 & c3, mask) + set_in(c4 & c5 & c6 & c7, mask);
         let y = set_in(c0 & c1 & c4 & c5, mask) + set_in(c2 & c3 & c6 & c7, mask);
         let x = set_in(c0 & c3 & c4 & c7, mask) + set_in(c1 & c2 & c5 & c6, mask);
@@ -72,16 +47,7 @@ impl Corners {
     fn cells_inside(self, mask: u32) -> u32
         ensures { (result ≡ in_mask mask (of_signs whole_at self)) × (result ≤ 32) }
     {
-        let Corners {
-            c0,
-            c1,
-            c2,
-            c3,
-            c4,
-            c5,
-            c6,
-            c7,
-        } = self;
+        let [c0, c1, c2, c3, c4, c5, c6, c7] = self.signs;
         set_in(c0 & c1 & c2 & c3 & c4 & c5 & c6 & c7, mask)
     }
 
@@ -89,16 +55,7 @@ impl Corners {
     fn opposite_outside(self, mask: u32) -> u32
         ensures { (result ≡ in_mask mask (of_signs opposite_at self)) × (result ≤ 64) }
     {
-        let Corners {
-            c0,
-            c1,
-            c2,
-            c3,
-            c4,
-            c5,
-            c6,
-            c7,
-        } = self;
+        let [c0, c1, c2, c3, c4, c5, c6, c7] = self.signs;
         let one = c2 & c3 & c4 & c5 & (c0 ^ c1) & (c6 ^ c7) & (c0 ^ c7);
         let other = c0 & c1 & c6 & c7 & (c2 ^ c3) & (c4 ^ c5) & (c3 ^ c4);
         set_in(one, mask) + set_in(other, mask)
@@ -118,16 +75,7 @@ impl Corners {
     pub fn new_in(self, mask: u32, first: u32, top: u32) -> u32
         ensures { (result ≡ new_in self mask first top) × (result ≤ 256) }
     {
-        let Corners {
-            c0,
-            c1,
-            c2,
-            c3,
-            c4,
-            c5,
-            c6,
-            c7,
-        } = self;
+        let [c0, c1, c2, c3, c4, c5, c6, c7] = self.signs;
         let inner = set_in(c5 ^ c6, mask) + set_in(c6 ^ c7, mask) + set_in(c2 ^ c6, mask);
         let left = set_in((c4 ^ c7) & first, mask) + set_in((c3 ^ c7) & first, mask);
         let upper = set_in((c4 ^ c5) & top, mask) + set_in((c1 ^ c5) & top, mask);

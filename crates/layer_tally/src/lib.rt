@@ -90,14 +90,16 @@ fn corners_at(layers: Layers, at: usize) -> Corners
 {
     let Layers { low, high } = layers;
     Corners {
-        c0: low[at],
-        c1: next_word(low, at),
-        c2: next_word(low, at + 4),
-        c3: low[at + 4],
-        c4: high[at],
-        c5: next_word(high, at),
-        c6: next_word(high, at + 4),
-        c7: high[at + 4],
+        signs: [
+            low[at],
+            next_word(low, at),
+            next_word(low, at + 4),
+            low[at + 4],
+            high[at],
+            next_word(high, at),
+            next_word(high, at + 4),
+            high[at + 4],
+        ],
     }
 }
 

@@ -1,7 +1,7 @@
 -- `corners_inside`: the bits of each word.
 use mathlib.Core.Path.{refl}
 use native.Mathlib.Omega.{arith}
-use Rattle.cell_tally.specs.Tally.{is_set}
+use Rattle.cell_tally.specs.Tally.{corner, is_set}
 use Rattle.cell_tally.proofs.Tallies.{comes-plus, comes-set}
 use Rattle.cell_tally.proofs.Corners.corners_inside.Goals as goal
 
@@ -17,8 +17,8 @@ returns c =
     let s8 = c.set_in-8.ensures in
     let k = c.args.self in (
       (comes-plus
-          (comes-plus (comes-plus (comes-plus (comes-set k.c0 (λ i. is_set k.c0 i) s1.0 (λ i. refl)) (comes-set k.c1 (λ i. is_set k.c1 i) s2.0 (λ i. refl))) (comes-set k.c2 (λ i. is_set k.c2 i) s3.0 (λ i. refl))) (comes-set k.c3 (λ i. is_set k.c3 i) s4.0 (λ i. refl)))
-          (comes-plus (comes-plus (comes-plus (comes-set k.c4 (λ i. is_set k.c4 i) s5.0 (λ i. refl)) (comes-set k.c5 (λ i. is_set k.c5 i) s6.0 (λ i. refl))) (comes-set k.c6 (λ i. is_set k.c6 i) s7.0 (λ i. refl))) (comes-set k.c7 (λ i. is_set k.c7 i) s8.0 (λ i. refl)))
+          (comes-plus (comes-plus (comes-plus (comes-set (corner k 0) (λ i. is_set (corner k 0) i) s1.0 (λ i. refl)) (comes-set (corner k 1) (λ i. is_set (corner k 1) i) s2.0 (λ i. refl))) (comes-set (corner k 2) (λ i. is_set (corner k 2) i) s3.0 (λ i. refl))) (comes-set (corner k 3) (λ i. is_set (corner k 3) i) s4.0 (λ i. refl)))
+          (comes-plus (comes-plus (comes-plus (comes-set (corner k 4) (λ i. is_set (corner k 4) i) s5.0 (λ i. refl)) (comes-set (corner k 5) (λ i. is_set (corner k 5) i) s6.0 (λ i. refl))) (comes-set (corner k 6) (λ i. is_set (corner k 6) i) s7.0 (λ i. refl))) (comes-set (corner k 7) (λ i. is_set (corner k 7) i) s8.0 (λ i. refl)))
           ).equal,
       omega (arith, s1.1, s2.1, s3.1, s4.1, s5.1, s6.1, s7.1, s8.1),
     )

@@ -6,7 +6,7 @@ use Rattle.cell_tally.proofs.SetBits.{and_set}
 use Rattle.walk.specs.Walk.{bit}
 use Rattle.corner_signs.specs.Signs.{four, faces_at}
 use Rattle.cell_tally.specs.declared.Corners.{Corners}
-use Rattle.cell_tally.specs.Tally.{is_set, in_mask, set_in, of_signs}
+use Rattle.cell_tally.specs.Tally.{corner, is_set, in_mask, set_in, of_signs}
 use Rattle.cell_tally.proofs.Tallies.{Comes, comes-plus, comes-set}
 use lib.Bits.{bit_and}
 use Rattle.cell_tally.proofs.Corners.faces_inside.Goals as goal
@@ -17,16 +17,16 @@ face : {mask a : ℕ} (p q r s : ℕ) → a ≡ set_in (bit_and (bit_and (bit_an
 face p q r s e = comes-set (bit_and (bit_and (bit_and p q) r) s) (λ i. four (is_set p i) (is_set q i) (is_set r i) (is_set s i)) e (λ i. simp and_set)
 
 faces : (k : Corners) (mask z₀ z₁ y₀ y₁ x₀ x₁ : ℕ)
-    → z₀ ≡ set_in (bit_and (bit_and (bit_and k.c0 k.c1) k.c2) k.c3) mask → z₁ ≡ set_in (bit_and (bit_and (bit_and k.c4 k.c5) k.c6) k.c7) mask
-    → y₀ ≡ set_in (bit_and (bit_and (bit_and k.c0 k.c1) k.c4) k.c5) mask → y₁ ≡ set_in (bit_and (bit_and (bit_and k.c2 k.c3) k.c6) k.c7) mask
-    → x₀ ≡ set_in (bit_and (bit_and (bit_and k.c0 k.c3) k.c4) k.c7) mask → x₁ ≡ set_in (bit_and (bit_and (bit_and k.c1 k.c2) k.c5) k.c6) mask
+    → z₀ ≡ set_in (bit_and (bit_and (bit_and (corner k 0) (corner k 1)) (corner k 2)) (corner k 3)) mask → z₁ ≡ set_in (bit_and (bit_and (bit_and (corner k 4) (corner k 5)) (corner k 6)) (corner k 7)) mask
+    → y₀ ≡ set_in (bit_and (bit_and (bit_and (corner k 0) (corner k 1)) (corner k 4)) (corner k 5)) mask → y₁ ≡ set_in (bit_and (bit_and (bit_and (corner k 2) (corner k 3)) (corner k 6)) (corner k 7)) mask
+    → x₀ ≡ set_in (bit_and (bit_and (bit_and (corner k 0) (corner k 3)) (corner k 4)) (corner k 7)) mask → x₁ ≡ set_in (bit_and (bit_and (bit_and (corner k 1) (corner k 2)) (corner k 5)) (corner k 6)) mask
     → z₀ + z₁ + (y₀ + y₁) + (x₀ + x₁) ≡ in_mask mask (of_signs faces_at k)
 faces k mask z₀ z₁ y₀ y₁ x₀ x₁ e₁ e₂ e₃ e₄ e₅ e₆ =
     (comes-plus
     (comes-plus
-    (comes-plus (face k.c0 k.c1 k.c2 k.c3 e₁) (face k.c4 k.c5 k.c6 k.c7 e₂))
-    (comes-plus (face k.c0 k.c1 k.c4 k.c5 e₃) (face k.c2 k.c3 k.c6 k.c7 e₄)))
-    (comes-plus (face k.c0 k.c3 k.c4 k.c7 e₅) (face k.c1 k.c2 k.c5 k.c6 e₆))
+    (comes-plus (face (corner k 0) (corner k 1) (corner k 2) (corner k 3) e₁) (face (corner k 4) (corner k 5) (corner k 6) (corner k 7) e₂))
+    (comes-plus (face (corner k 0) (corner k 1) (corner k 4) (corner k 5) e₃) (face (corner k 2) (corner k 3) (corner k 6) (corner k 7) e₄)))
+    (comes-plus (face (corner k 0) (corner k 3) (corner k 4) (corner k 7) e₅) (face (corner k 1) (corner k 2) (corner k 5) (corner k 6) e₆))
     ).equal
 
 pub returns : goal.returns

@@ -7,7 +7,7 @@ use Rattle.cell_tally.proofs.SetBits.{and_set, xor-set}
 use Rattle.walk.specs.Walk.{bit}
 use Rattle.corner_signs.specs.Signs.{differ}
 use Rattle.cell_tally.specs.declared.Corners.{Corners}
-use Rattle.cell_tally.specs.Tally.{is_set, set_in, new_in}
+use Rattle.cell_tally.specs.Tally.{corner, is_set, set_in, new_in}
 use Rattle.cell_tally.proofs.Tallies.{Comes, comes-plus, comes-set, new-comes}
 use lib.Bits.{bit_and, bit_xor}
 use Rattle.cell_tally.proofs.Corners.new_in.Goals as goal
@@ -25,19 +25,19 @@ within_both p q v w e =
     comes-set (bit_and (bit_and (bit_xor p q) v) w) (λ i. (differ (is_set p i) (is_set q i) && is_set v i) && is_set w i) e (λ i. simp (and_set, xor-set))
 
 new-edges : (k : Corners) (mask first top a₁ a₂ a₃ a₄ a₅ a₆ a₇ a₈ : ℕ)
-    → a₁ ≡ set_in (bit_xor k.c5 k.c6) mask → a₂ ≡ set_in (bit_xor k.c6 k.c7) mask → a₃ ≡ set_in (bit_xor k.c2 k.c6) mask
-    → a₄ ≡ set_in (bit_and (bit_xor k.c4 k.c7) first) mask → a₅ ≡ set_in (bit_and (bit_xor k.c3 k.c7) first) mask
-    → a₆ ≡ set_in (bit_and (bit_xor k.c4 k.c5) top) mask → a₇ ≡ set_in (bit_and (bit_xor k.c1 k.c5) top) mask
-    → a₈ ≡ set_in (bit_and (bit_and (bit_xor k.c0 k.c4) first) top) mask
+    → a₁ ≡ set_in (bit_xor (corner k 5) (corner k 6)) mask → a₂ ≡ set_in (bit_xor (corner k 6) (corner k 7)) mask → a₃ ≡ set_in (bit_xor (corner k 2) (corner k 6)) mask
+    → a₄ ≡ set_in (bit_and (bit_xor (corner k 4) (corner k 7)) first) mask → a₅ ≡ set_in (bit_and (bit_xor (corner k 3) (corner k 7)) first) mask
+    → a₆ ≡ set_in (bit_and (bit_xor (corner k 4) (corner k 5)) top) mask → a₇ ≡ set_in (bit_and (bit_xor (corner k 1) (corner k 5)) top) mask
+    → a₈ ≡ set_in (bit_and (bit_and (bit_xor (corner k 0) (corner k 4)) first) top) mask
     → a₁ + a₂ + a₃ + (a₄ + a₅) + (a₆ + a₇) + a₈ ≡ new_in k mask first top
 new-edges k mask first top a₁ a₂ a₃ a₄ a₅ a₆ a₇ a₈ e₁ e₂ e₃ e₄ e₅ e₆ e₇ e₈ =
     (comes-plus
     (comes-plus
     (comes-plus
-    (comes-plus (comes-plus (anywhere k.c5 k.c6 e₁) (anywhere k.c6 k.c7 e₂)) (anywhere k.c2 k.c6 e₃))
-    (comes-plus (within k.c4 k.c7 first e₄) (within k.c3 k.c7 first e₅)))
-    (comes-plus (within k.c4 k.c5 top e₆) (within k.c1 k.c5 top e₇)))
-    (within_both k.c0 k.c4 first top e₈)
+    (comes-plus (comes-plus (anywhere (corner k 5) (corner k 6) e₁) (anywhere (corner k 6) (corner k 7) e₂)) (anywhere (corner k 2) (corner k 6) e₃))
+    (comes-plus (within (corner k 4) (corner k 7) first e₄) (within (corner k 3) (corner k 7) first e₅)))
+    (comes-plus (within (corner k 4) (corner k 5) top e₆) (within (corner k 1) (corner k 5) top e₇)))
+    (within_both (corner k 0) (corner k 4) first top e₈)
     ).equal
     ∙ new-comes k mask first top
 
