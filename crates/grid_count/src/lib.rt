@@ -21,10 +21,7 @@ pub fn count_grid(numbering: Numbering, samples: &[f32], n: usize, work: &mut [u
     ensures grows_within { GrowsWithin (λ k. (count_steps (word_of numbering) n (inside_of n samples.now) k (record { work = work.old; made = 0; written = 0 })).written) n result.span }
     ensures written_bound { result.counts.written ≤ 31211520 }
 {
-    let whole = Span {
-        first: 0,
-        last: n,
-    };
+    let whole = Span { first: 0, last: n };
     let mut vertices: [f32; 0] = [];
     let mut indices: [u32; 0] = [];
     match numbering {

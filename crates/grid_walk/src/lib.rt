@@ -86,11 +86,7 @@ fn layer_cells<S: CellStep>(
             layer: layer.z % 2,
             row,
         };
-        let cells = Row {
-            layer,
-            y,
-            parity,
-        };
+        let cells = Row { layer, y, parity };
         reached = row_walk::row_cells(&here, cells, work, vertices, indices, reached);
         row = 1 - row;
     }

@@ -47,7 +47,14 @@ impl CellStep for CrateCount<'_> {
         *self
     }
 
-    fn cell(&self, here: Crossed, work: &mut [u32], vertices: &mut [f32], indices: &mut [u32], counts: Counts) -> Counts {
+    fn cell(
+        &self,
+        here: Crossed,
+        work: &mut [u32],
+        vertices: &mut [f32],
+        indices: &mut [u32],
+        counts: Counts,
+    ) -> Counts {
         let row = here.row;
         held_bits::held_cell(
             self.names,
@@ -87,7 +94,14 @@ impl CellStep for JoinedCount<'_> {
         *self
     }
 
-    fn cell(&self, here: Crossed, work: &mut [u32], vertices: &mut [f32], indices: &mut [u32], counts: Counts) -> Counts {
+    fn cell(
+        &self,
+        here: Crossed,
+        work: &mut [u32],
+        vertices: &mut [f32],
+        indices: &mut [u32],
+        counts: Counts,
+    ) -> Counts {
         joined_edges::joined_counts(self.news, here.case, here.class, counts)
     }
 

@@ -50,7 +50,14 @@ impl CellStep for CrateFill<'_> {
         *self
     }
 
-    fn cell(&self, here: Crossed, work: &mut [u32], vertices: &mut [f32], indices: &mut [u32], counts: Counts) -> Counts {
+    fn cell(
+        &self,
+        here: Crossed,
+        work: &mut [u32],
+        vertices: &mut [f32],
+        indices: &mut [u32],
+        counts: Counts,
+    ) -> Counts {
         let cell = Cell {
             samples: here.row.layer.samples,
             coordinates: self.coordinates,
@@ -103,7 +110,14 @@ impl CellStep for JoinedFill<'_> {
         }
     }
 
-    fn cell(&self, here: Crossed, work: &mut [u32], vertices: &mut [f32], indices: &mut [u32], counts: Counts) -> Counts {
+    fn cell(
+        &self,
+        here: Crossed,
+        work: &mut [u32],
+        vertices: &mut [f32],
+        indices: &mut [u32],
+        counts: Counts,
+    ) -> Counts {
         let cell = Cell {
             samples: here.row.layer.samples,
             coordinates: self.coordinates,

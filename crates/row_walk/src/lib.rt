@@ -37,7 +37,14 @@ pub trait CellStep: Copy {
         requires { (n ≤ 128) × made_for self.now n }
         ensures { ready result n z };
 
-    fn cell(&self, here: Crossed, work: &mut [u32], vertices: &mut [f32], indices: &mut [u32], counts: Counts) -> Counts
+    fn cell(
+        &self,
+        here: Crossed,
+        work: &mut [u32],
+        vertices: &mut [f32],
+        indices: &mut [u32],
+        counts: Counts,
+    ) -> Counts
         requires ready { ready self.now here.row.layer.n here.row.layer.z }
         requires room { (room here.row.layer.n ≤ length work.old) × (counts.written + 15 < 2 ^ 32) }
         ensures result_after { in_hand work.new vertices.new indices.new result

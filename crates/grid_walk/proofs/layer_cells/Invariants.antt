@@ -16,5 +16,5 @@ invariant-loop-y g l = record {
   row-is : l.row ≡ row_parity l.layer.n l.layer.z l.y;
   work-same : length l.work ≡ length l.initial.work;
   vertices-same : length l.vertices ≡ length l.initial.vertices;
-  indices-same : length l.indices ≡ length l.initial.indices
+  indices-same : length l.indices ≡ length l.initial.indices;
 }

@@ -7,16 +7,20 @@ use Rattle.grid_walk.proofs.walk.Goals as goal
 pub walk_layers-requires-clause-begun : goal.walk_layers-requires-clause-begun
 walk_layers-requires-clause-begun c =
     let args = c.args in
-    let within = c.requires.grows_within.0 in
-    (within.ordered, within.most,
-    crate-layers args.n args.samples.now args.span.first _ ∙ walk_steps-begun 0 args.n args.samples.now args.span within args.work.now args.vertices.now args.indices.now c.requires.grows_within.1)
+    let within = c.requires.grows_within.0 in (
+      within.ordered,
+      within.most,
+      crate-layers args.n args.samples.now args.span.first _ ∙ walk_steps-begun 0 args.n args.samples.now args.span within args.work.now args.vertices.now args.indices.now c.requires.grows_within.1,
+    )
 
 pub walk_layers-requires-in-Joined-clause-begun : goal.walk_layers-requires-in-Joined-clause-begun
 walk_layers-requires-in-Joined-clause-begun c =
     let args = c.args in
-    let within = c.requires.grows_within.0 in
-    (within.ordered, within.most,
-    joined-layers args.n args.samples.now args.span.first _ ∙ walk_steps-begun 1 args.n args.samples.now args.span within args.work.now args.vertices.now args.indices.now c.requires.grows_within.1)
+    let within = c.requires.grows_within.0 in (
+      within.ordered,
+      within.most,
+      joined-layers args.n args.samples.now args.span.first _ ∙ walk_steps-begun 1 args.n args.samples.now args.span within args.work.now args.vertices.now args.indices.now c.requires.grows_within.1,
+    )
 
 pub returns-in-Crate-clause-result_after : goal.returns-in-Crate-clause-result_after
 returns-in-Crate-clause-result_after c =

@@ -23,5 +23,5 @@ invariant-loop-z g l = record {
       (untouched l.initial.work l.initial.vertices l.initial.indices)).written) l.z l.grown;
   work-same : length l.work ≡ length l.initial.work;
   vertices-same : length l.vertices ≡ length l.initial.vertices;
-  indices-same : length l.indices ≡ length l.initial.indices
+  indices-same : length l.indices ≡ length l.initial.indices;
 }

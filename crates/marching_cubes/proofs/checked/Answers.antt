@@ -59,6 +59,8 @@ returns-clause-accepted c =
     let known = known-word a.numbering _ (sym c.try_from.ensures ∙ c.in_ok-known.was) in
     let room = c.work_room.ensures in
     let enough = c.if-work-work_room.false in
-    let none = sym (any_bad-lowest_bad a.samples.now) ∙ sym c.any_bad.ensures ∙ c.if-any_bad.false in
-    (record { least = c.if-size-lt2.false; most = c.if-size-gt128.false; samples-whole = c.if-samples-n.false; work-room = omega (arith, room, enough) },
-    known.0, ltb-false (lowest_bad a.samples.now) (length a.samples.now) none)
+    let none = sym (any_bad-lowest_bad a.samples.now) ∙ sym c.any_bad.ensures ∙ c.if-any_bad.false in (
+      record { least = c.if-size-lt2.false; most = c.if-size-gt128.false; samples-whole = c.if-samples-n.false; work-room = omega (arith, room, enough) },
+      known.0,
+      ltb-false (lowest_bad a.samples.now) (length a.samples.now) none,
+    )

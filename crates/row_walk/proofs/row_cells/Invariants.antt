@@ -13,5 +13,5 @@ invariant-loop-k g l = record {
       (in_hand l.initial.work l.initial.vertices l.initial.indices l.initial.reached) (in_hand l.work l.vertices l.indices l.reached) (min (32 * l.k) (l.row.layer.n - 1)) (480 * l.k);
   work-same : length l.work ≡ length l.initial.work;
   vertices-same : length l.vertices ≡ length l.initial.vertices;
-  indices-same : length l.indices ≡ length l.initial.indices
+  indices-same : length l.indices ≡ length l.initial.indices;
 }

@@ -11,7 +11,7 @@ invariant-loop-rest g l = record {
       (record { memory = l.work; vertices = l.vertices; indices = l.indices; made = l.made; written = l.written }) l.mask l.rest;
   work-same : length l.work ≡ length l.initial.work;
   vertices-same : length l.vertices ≡ length l.initial.vertices;
-  indices-same : length l.indices ≡ length l.initial.indices
+  indices-same : length l.indices ≡ length l.initial.indices;
 }
 
 abbrev pub decreases-loop-rest : goal.decreases-loop-rest
