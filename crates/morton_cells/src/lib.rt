@@ -7,7 +7,7 @@ ghost use Rattle.std.specs.Prelude.{◌≡◌, ◌≤◌};
 ghost use Rattle.morton_sums.specs.Interleaved.{thirds};
 ghost use Rattle.morton_cells.specs.Cell.{half_size_of, center_of, half_size_at, center_at};
 
-use morton::{is_good, level_in};
+use morton::{BadKey, level};
 
 const SHIFT_2A: u64 = 18;
 
@@ -27,25 +27,11 @@ const DILATE_MASK_1: u64 = 0x01C0_E070_381C_0E07; // 3 bits at 0, 9, .., 54
 
 const DILATE_MASK_0: u64 = 0x9249_2492_4924_9249; // bits 0, 3, .., 63
 
-// A half-size, or refusal 9.
-#[derive(Clone, Copy)]
-pub enum Length {
-    Is(f32),
-    Refused,
-}
-
 #[derive(Clone, Copy)]
 pub struct Vec3 {
     pub x: f32,
     pub y: f32,
     pub z: f32,
-}
-
-// A center, or refusal 9.
-#[derive(Clone, Copy)]
-pub enum Point {
-    At(Vec3),
-    Refused,
 }
 
 // `size` of morton.rs.
@@ -57,13 +43,11 @@ fn half_size_at(level: u32) -> f32
 }
 
 // The distance from the center of the key's cell to its faces.
-pub fn half_size(key: u64) -> Length
+#[tactic(auto, using(morton::proofs::TopBit::level_in_le))]
+pub fn half_size(key: u64) -> Result<f32, BadKey>
     ensures { result ≡ half_size_of key }
 {
-    if !is_good(key) {
-        return Length::Refused;
-    }
-    Length::Is(half_size_at(level_in(key)))
+    Ok(half_size_at(level(key)?))
 }
 
 // Every third bit, moved together by threes, nines and twenty-sevens; then as many as there are levels.
@@ -89,15 +73,13 @@ fn center_on(bits: u64, level: u32) -> f32
 }
 
 // The center of the key's cell, in the cube of side 1 that is the root's.
-pub fn center(key: u64) -> Point
+#[tactic(auto, using(morton::proofs::TopBit::level_in_le))]
+pub fn center(key: u64) -> Result<Vec3, BadKey>
     ensures { result ≡ center_of key }
 {
-    if !is_good(key) {
-        return Point::Refused;
-    }
-    let level = level_in(key);
+    let level = level(key)?;
     let x = center_on(key, level);
     let y = center_on(key >> 1, level);
     let z = center_on(key >> 2, level);
-    Point::At(Vec3 { x, y, z })
+    Ok(Vec3 { x, y, z })
 }
