@@ -14,31 +14,29 @@ pub enum Crossing {
     Refused(u32),
 }
 
-// 2 to the 126.
+// 2 to the 126, the largest magnitude of a good sample.
 const LIMIT: f32 = 85070591730234615865843651857942052864.0;
 
-// Whether a sample is finite and of magnitude at most 2^126.
+// Whether a sample is finite and of magnitude at most 2^126. Both sides are always compared, so that a loop over
+// samples can take several at a time.
+#[tactic(auto, using(crate::proofs::Limit::good_in_range))]
 pub fn is_good(sample: f32) -> bool
     ensures { result ≡ good sample }
 {
-    if sample <= LIMIT {
-        -LIMIT <= sample
-    } else {
-        false
-    }
+    (sample <= LIMIT) & (-LIMIT <= sample)
 }
 
 // Whether exactly one end is <= 0.0.
+#[tactic(auto, using(crate::proofs::Constants::nought_bits), unfolding(crate::specs::Edge::crosses, crate::specs::Sample::inside))]
 pub fn is_crossing(a: f32, b: f32) -> bool
     ensures { result ≡ crosses a b }
 {
-    let first = a <= 0.0;
-    let second = b <= 0.0;
-    first != second
+    (a <= 0.0) != (b <= 0.0)
 }
 
 // Where the surface crosses an edge with the end values a and b. On its own it says nothing about
 // whether there is a crossing, so no export passes it on.
+#[tactic(auto, using(crate::proofs::Constants::nought_bits, crate::proofs::Constants::half_bits), unfolding(crate::specs::Edge::offset_of))]
 pub fn get_offset(a: f32, b: f32) -> f32
     ensures { result ≡ offset_of a b }
 {

@@ -25,9 +25,9 @@ pub fn sign_byte(values: [f32; 8]) -> u8
     ensures { result ≡ sign_byte values }
 {
     let mut signs: u8 = 0;
-    for i in 0..8 {
-        if values[i] <= 0.0 {
-            signs = signs | (1 << i);
+    for (i, value) in values.iter().enumerate() {
+        if *value <= 0.0 {
+            signs |= 1 << i;
         }
     }
     signs
