@@ -6,7 +6,8 @@ ghost use Rattle.marching_cubes_impl.specs.Sample.{good};
 ghost use Rattle.marching_cubes_impl.specs.Edge.{offset_of, crosses, crossing_of};
 
 // No crossing; a crossing with its offset from the first end; or refusal 5, with the place of the
-// first bad end, 0 or 1.
+// first bad end, 0 or 1. An enum of its own, and no Option or Result: document 01 names this form, and two of its
+// three cases are no failure. The place stays a number, since document 01 answers it as one.
 #[derive(Clone, Copy)]
 pub enum Crossing {
     Absent,
