@@ -18,7 +18,7 @@ pub struct BadKey;
 pub fn is_good(key: u64) -> bool
     ensures { result ≡ good key }
 {
-    key != 0 && (63 - u64::leading_zeros(key)) % 3 == 0
+    key != 0 && (63 - key.leading_zeros()) % 3 == 0
 }
 
 // The level of a good key.
@@ -27,7 +27,7 @@ pub fn level_in(key: u64) -> u32
     requires { T (good key) }
     ensures { result ≡ level_in key }
 {
-    (63 - u64::leading_zeros(key)) / 3
+    (63 - key.leading_zeros()) / 3
 }
 
 // The depth of the key's cell in the octree. Every other question asks this first.

@@ -34,12 +34,40 @@ pub struct Vec3 {
     pub z: f32,
 }
 
-// `size` of morton.rs.
-fn half_size_at(level: u32) -> f32
-    requires { level ≤ 21 }
-    ensures { result ≡ half_size_at level }
-{
-    1.0 / ((2u64 << level) as f32)
+// A level of the octree.
+#[derive(Clone, Copy)]
+struct Level {
+    number: u32,
+    ghost within: { number ≤ 21 },
+}
+
+impl Level {
+    // `size` of morton.rs.
+    fn half_size(self) -> f32
+        ensures { result ≡ half_size_at self.number }
+    {
+        1.0 / ((2u64 << self.number) as f32)
+    }
+
+    // Every third bit, moved together by threes, nines and twenty-sevens; then as many as there are levels.
+    fn coordinate(self, bits: u64) -> u64
+        ensures { result ≡ thirds self.number bits }
+    {
+        let ones = bits & DILATE_MASK_0;
+        let threes = (ones | (ones >> SHIFT_0A) | (ones >> SHIFT_0B)) & DILATE_MASK_1;
+        let nines = (threes | (threes >> SHIFT_1A) | (threes >> SHIFT_1B)) & DILATE_MASK_2;
+        let length_mask = (1u64 << self.number) - 1;
+        (nines | (nines >> SHIFT_2A) | (nines >> SHIFT_2B)) & length_mask
+    }
+
+    // The center of a cell on the axis whose bits are every third one of `bits`.
+    fn center_on(self, bits: u64) -> f32
+        ensures { result ≡ center_at (thirds self.number bits) self.number }
+    {
+        let size = self.half_size();
+        let size2 = size * 2.0;
+        (self.coordinate(bits) as f32) * size2 + size
+    }
 }
 
 // The distance from the center of the key's cell to its faces.
@@ -47,29 +75,10 @@ fn half_size_at(level: u32) -> f32
 pub fn half_size(key: u64) -> Result<f32, BadKey>
     ensures { result ≡ half_size_of key }
 {
-    Ok(half_size_at(level(key)?))
-}
-
-// Every third bit, moved together by threes, nines and twenty-sevens; then as many as there are levels.
-fn coordinate(bits: u64, level: u32) -> u64
-    requires { level ≤ 21 }
-    ensures { result ≡ thirds level bits }
-{
-    let ones = bits & DILATE_MASK_0;
-    let threes = (ones | (ones >> SHIFT_0A) | (ones >> SHIFT_0B)) & DILATE_MASK_1;
-    let nines = (threes | (threes >> SHIFT_1A) | (threes >> SHIFT_1B)) & DILATE_MASK_2;
-    let length_mask = (1u64 << level) - 1;
-    (nines | (nines >> SHIFT_2A) | (nines >> SHIFT_2B)) & length_mask
-}
-
-// The center of a cell on the axis whose bits are every third one of `bits`.
-fn center_on(bits: u64, level: u32) -> f32
-    requires { level ≤ 21 }
-    ensures { result ≡ center_at (thirds level bits) level }
-{
-    let size = half_size_at(level);
-    let size2 = size * 2.0;
-    (coordinate(bits, level) as f32) * size2 + size
+    let level = Level {
+        number: level(key)?,
+    };
+    Ok(level.half_size())
 }
 
 // The center of the key's cell, in the cube of side 1 that is the root's.
@@ -77,9 +86,11 @@ fn center_on(bits: u64, level: u32) -> f32
 pub fn center(key: u64) -> Result<Vec3, BadKey>
     ensures { result ≡ center_of key }
 {
-    let level = level(key)?;
-    let x = center_on(key, level);
-    let y = center_on(key >> 1, level);
-    let z = center_on(key >> 2, level);
+    let level = Level {
+        number: level(key)?,
+    };
+    let x = level.center_on(key);
+    let y = level.center_on(key >> 1);
+    let z = level.center_on(key >> 2);
     Ok(Vec3 { x, y, z })
 }
