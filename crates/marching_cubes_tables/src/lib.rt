@@ -61,8 +61,8 @@ pub fn triangle_table() -> [i8; 4096]
     triangle_connection::TRIANGLE_CONNECTION
 }
 
-// Entry k of the row of the sign byte s, in the lent table. The table is a bare array, and no struct that keeps what it
-// holds as a ghost field: `requires` says it where it is read, and every walk above is handed this array.
+// Entry k of the row of the sign byte s, in the lent table. The table stays a bare array, and no struct that keeps what
+// it holds: the public `row_edges` of marching_cubes_impl takes one, and its argument may not become narrower.
 pub fn triangle(table: &[i8; 4096], s: usize, k: usize) -> i8
     requires { (table.now ≡ triangle_table) × ((s < 256) × (k < 16)) }
     ensures { result ≡ get_or (row s) k (pos 0) }
