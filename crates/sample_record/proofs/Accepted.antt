@@ -8,8 +8,7 @@ use native.Mathlib.Omega.{arith}
 use lib.Dec.{T, ltb, eqb}
 use lib.ListN.{length}
 use borrow.Author.Tests.{ltb-false, eqb-true, not-false}
-use Rattle.std.specs.Prelude.{Result, Ok, Err}
-use Rattle.refusals.specs.declared.Refusal.{Refusal}
+use Rattle.std.specs.Prelude.{Ok, Err}
 use Rattle.refusals.specs.declared.Refusal.TheVariants.{Size, Numbering, SampleCount, Malformed}
 use Rattle.numbering.specs.declared.Numbering.TheVariants.{Crate, Joined}
 use Rattle.numbering.specs.Word.{word_of}

@@ -69,7 +69,7 @@ module _ (limit : ℕ) (bytes : List ℕ) where
                 record_of-length h =
                     rw (long-test, version-test, least-test, most-test, numbering-test, count-test, offset-test, ne_eqb (length bytes) (20 + 4 * word_at bytes 12) h)
 
-                pub record_of-whole : length bytes ≡ 20 + 4 * word_at bytes 12 
+                pub record_of-whole : length bytes ≡ 20 + 4 * word_at bytes 12
                     → Ok (record { size = word_at bytes 4; numbering = cond (eqb (word_at bytes 8) 0) Crate Joined }) ≡ record_of limit bytes
                 record_of-whole h =
                     rw (long-test, version-test, least-test, most-test, numbering-test, count-test, offset-test, eq-eqb (length bytes) (20 + 4 * word_at bytes 12) h)
