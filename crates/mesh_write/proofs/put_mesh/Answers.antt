@@ -6,9 +6,9 @@ use Rattle.mesh_write.proofs.put_mesh.Goals as goal
 pub returns-then-out-end : goal.returns-then-out-end
 returns-then-out-end c =
     put-short c.args.size c.args.numbering c.args.coordinates.now c.args.indices.now c.args.out.now
-    c.answered.result c.answered.ensures (omega arith)
+    c.short.result c.short.ensures (omega arith)
 
 pub returns : goal.returns
 returns c =
     put-done c.args.size c.args.numbering c.args.coordinates.now c.args.indices.now c.args.out.now
-    _ _ _ c.answered-2.result (omega arith) c.put_words.ensures c.put_floats.ensures c.put_words-2.ensures c.answered-2.ensures
+    _ _ _ c.done.result (omega arith) c.put_words.ensures c.put_floats.ensures c.put_words-2.ensures c.done.ensures
