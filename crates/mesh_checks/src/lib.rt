@@ -40,12 +40,16 @@ fn check_contents(bytes: &[u8]) -> Result<(), Refusal>
     let vertices = word_at(bytes, 12);
     let (coordinates, indices) = bytes[28..].split_at(12 * (vertices as usize));
     let words = coordinates.as_chunks::<4>().0;
-    let bad_coordinate = words.iter().position(|word| !is_finite(u32::from_le_bytes(*word)));
+    let bad_coordinate = words
+        .iter()
+        .position(|word| !is_finite(u32::from_le_bytes(*word)));
     if let Some(i) = bad_coordinate {
         return Err(Refusal::Malformed(28 + 4 * (i as u64)));
     }
     let words = indices.as_chunks::<4>().0;
-    let bad_index = words.iter().position(|word| vertices <= u32::from_le_bytes(*word));
+    let bad_index = words
+        .iter()
+        .position(|word| vertices <= u32::from_le_bytes(*word));
     if let Some(i) = bad_index {
         return Err(Refusal::Malformed(28 + 12 * (vertices as u64) + 4 * (i as u64)));
     }

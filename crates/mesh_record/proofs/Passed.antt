@@ -2,17 +2,29 @@
 use mathlib.Core.Path.{◌≡◌, refl, subst}
 use mathlib.Core.Bool.{Bool, true, false, cond, ◌||◌}
 use Prim.Native.Nat.{ℕ, ◌+◌, ◌*◌, ◌≤◌, ◌<◌}
+use native.Mathlib.Omega.{arith}
 use lib.Dec.{T, ltb, eqb}
 use lib.ListN.{length, get_or}
 use borrow.Author.Tests.{ltb-true, ltb-false, eqb-true, not-false, lt-ltb, le-ltb, eq-eqb}
 use Rattle.std.proofs.Common.{Option, Some, None, Ok, Err}
 use Rattle.std.specs.Result.{result_and}
 use Rattle.refusals.specs.declared.Refusal.{Refusal}
+use Rattle.refusals.specs.declared.Refusal.TheVariants.{Size, Numbering, SampleCount, WorkingMemory, Sample, Malformed}
+use Rattle.refusals.specs.Causes.{cause_of}
 use Rattle.mesh_record.specs.Mesh.{Mesh, vertex_count, finite, below}
 use Rattle.mesh_record.specs.Refusals.{Checked, none, malformed, bad_size, bad_numbering, malformed_word, differ, opening, lowest_bad, contents}
 use Rattle.mesh_record.proofs.LowestBad.{lowest_bad-none, none-lowest_bad}
 
--- ---- one check, one part
+-- ---- one refusal, one check, one part
+
+-- cause 0 is no refusal's
+pub some-cause : (refusal : Refusal) → 1 ≤ cause_of refusal
+some-cause Size = omega arith
+some-cause Numbering = omega arith
+some-cause SampleCount = omega arith
+some-cause WorkingMemory = omega arith
+some-cause (Sample place) = omega arith
+some-cause (Malformed place) = omega arith
 
 pub check-passed : (b : Bool) (refusal : Refusal) (rest : Checked) → cond b (Err refusal) rest ≡ none → (b ≡ false) × (rest ≡ none)
 check-passed true refusal rest h = absurd (cc)
@@ -78,5 +90,7 @@ contents-known start m h =
 pub contents-passed : (start : ℕ) (m : Mesh) → Sound m → contents start m ≡ none
 unfolding contents
 contents-passed start m sound =
-    rw (none-lowest_bad finite m.coordinates sound.coordinates-finite,
-    none-lowest_bad (below (vertex_count m)) m.indices (λ i within. lt-ltb (get_or m.indices i 0) (vertex_count m) (sound.indices-below i within)))
+    rw (
+      none-lowest_bad finite m.coordinates sound.coordinates-finite,
+      none-lowest_bad (below (vertex_count m)) m.indices (λ i within. lt-ltb (get_or m.indices i 0) (vertex_count m) (sound.indices-below i within)),
+    )
