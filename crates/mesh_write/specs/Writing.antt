@@ -9,12 +9,17 @@ use Rattle.refusals.specs.declared.Refusal.{Refusal}
 use Rattle.refusals.specs.Causes.{cause_of, place_of}
 use Rattle.mesh_record.specs.Mesh.{Mesh, record_bytes}
 use Rattle.mesh_record.specs.Refusals.{Checked, malformed, none, in_threes, opening, contents}
+use Rattle.mesh_write.specs.declared.LentMesh.{LentMesh}
 use Rattle.mesh_write.specs.declared.WriteAnswer.{WriteAnswer}
 
 -- the mesh of lent floats and words
 abbrev pub mesh_of : ℕ → ℕ → List Float → List ℕ → Mesh
 mesh_of size numbering coordinates indices =
     record { size = size; numbering = numbering; coordinates = map (to_bits binary32) coordinates; indices = indices }
+
+-- the mesh that a caller lends
+abbrev pub mesh_lent : LentMesh → Mesh
+mesh_lent lent = mesh_of lent.size lent.numbering lent.coordinates.now lent.indices.now
 
 -- a count or a place that a word cannot hold
 abbrev pub too_large : ℕ → Bool

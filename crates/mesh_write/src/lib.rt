@@ -5,7 +5,7 @@
 
 ghost use Rattle.std.specs.Prelude.{◌≡◌, ◌≤◌, length};
 ghost use Rattle.mesh_record.specs.Refusals.{contents};
-ghost use Rattle.mesh_write.specs.Writing.{mesh_of, fields_of, Fits, refusal_of, refused, short, done, left, put, writing};
+ghost use Rattle.mesh_write.specs.Writing.{mesh_of, mesh_lent, fields_of, Fits, refusal_of, refused, short, done, left, put, writing};
 
 use little_endian::bits_of;
 use mesh_record::{check_opening, is_finite};
@@ -93,61 +93,54 @@ fn check_contents(coordinates: &[f32], indices: &[u32]) -> Result<(), Refusal>
     Ok(())
 }
 
-// The first refusal of a mesh, or none.
-fn check_mesh(
-    version: u32,
-    size: u32,
-    numbering: u32,
-    coordinates: &[f32],
-    indices: &[u32],
-) -> Result<(), Refusal>
-    ensures { result ≡ refusal_of version (mesh_of size numbering coordinates.now indices.now) }
-{
-    check_opening(version, size, numbering)?;
-    check_fields(coordinates.len(), indices.len())?;
-    check_contents(coordinates, indices)
+// A mesh as it is lent: three coordinates to a vertex, three indices to a triangle.
+#[derive(Clone, Copy)]
+pub struct LentMesh<'a> {
+    pub size: u32,
+    pub numbering: u32,
+    pub coordinates: &'a [f32],
+    pub indices: &'a [u32],
 }
 
-// The record of a mesh in which nothing is refused, where there is room for it.
-fn put_mesh(
-    size: u32,
-    numbering: u32,
-    coordinates: &[f32],
-    indices: &[u32],
-    out: &mut [u8],
-) -> WriteAnswer
-    requires { Fits (length coordinates.now) (length indices.now) }
-    ensures { left result out.new ≡ put (mesh_of size numbering coordinates.now indices.now) out.old }
-{
-    let vertices = (coordinates.len() / 3) as u32;
-    let count = indices.len() as u32;
-    let indices_at = 28 + 4 * coordinates.len();
-    let end = indices_at + 4 * indices.len();
-    if out.len() < end {
-        return WriteAnswer::short(end);
+impl<'a> LentMesh<'a> {
+    // The first refusal of a mesh, or none.
+    fn check(&self, version: u32) -> Result<(), Refusal>
+        ensures { result ≡ refusal_of version (mesh_lent self.now) }
+    {
+        check_opening(version, self.size, self.numbering)?;
+        check_fields(self.coordinates.len(), self.indices.len())?;
+        check_contents(self.coordinates, self.indices)
     }
-    let header = [1, size, numbering, vertices, 28, count, 28 + 12 * vertices];
-    put_words(out, 0, &header);
-    put_floats(out, 28, coordinates);
-    put_words(out, indices_at, indices);
-    WriteAnswer::done(end)
+
+    // The record of a mesh in which nothing is refused, where there is room for it.
+    fn put(&self, out: &mut [u8]) -> WriteAnswer
+        requires { Fits (length self.now.coordinates.now) (length self.now.indices.now) }
+        ensures { left result out.new ≡ put (mesh_lent self.now) out.old }
+    {
+        let vertices = (self.coordinates.len() / 3) as u32;
+        let count = self.indices.len() as u32;
+        let indices_at = 28 + 4 * self.coordinates.len();
+        let end = indices_at + 4 * self.indices.len();
+        if out.len() < end {
+            return WriteAnswer::short(end);
+        }
+        let offset = 28 + 12 * vertices;
+        let header = [1, self.size, self.numbering, vertices, 28, count, offset];
+        put_words(out, 0, &header);
+        put_floats(out, 28, self.coordinates);
+        put_words(out, indices_at, self.indices);
+        WriteAnswer::done(end)
+    }
 }
 
 // The record of a mesh, or the first refusal in document 02's order. After 0 the record stands at the
 // start of the output and the rest is unchanged; after anything else nothing lent has changed, and
 // after 10 the answer has the bytes to make room for.
-pub fn write_mesh(
-    version: u32,
-    size: u32,
-    numbering: u32,
-    coordinates: &[f32],
-    indices: &[u32],
-    out: &mut [u8],
-) -> WriteAnswer
-    ensures whole { left result out.new ≡ writing version (mesh_of size numbering coordinates.now indices.now) out.old }
+pub fn write_mesh(version: u32, mesh: &LentMesh, out: &mut [u8]) -> WriteAnswer
+    ensures whole { left result out.new ≡ writing version (mesh_lent mesh.now) out.old }
 {
-    match check_mesh(version, size, numbering, coordinates, indices) {
-        Ok(()) => put_mesh(size, numbering, coordinates, indices, out),
+    match mesh.check(version) {
+        Ok(()) => mesh.put(out),
         Err(refusal) => refusal.into(),
     }
 }
