@@ -1,17 +1,13 @@
 -- `copy_mesh`: both rooms are tried before anything is written; then one copy each.
 use native.Mathlib.Omega.{arith}
-use Rattle.mesh_read.proofs.Copies.{few-coordinates, few-indices, enough-room}
+use Rattle.mesh_read.proofs.Copies.{little-room, enough-room}
 use Rattle.mesh_read.proofs.copy_mesh.Goals as goal
 
 pub returns-then-coordinates-vertices : goal.returns-then-coordinates-vertices
 returns-then-coordinates-vertices c =
-    few-coordinates c.args.bytes.now c.args.coordinates.now c.args.indices.now c.requires
-    c.word_at-vertices.result c.word_at-count.result c.word_at-vertices.ensures c.word_at-count.ensures c.short.result c.short.ensures (omega arith)
-
-pub returns-then-indices-count : goal.returns-then-indices-count
-returns-then-indices-count c =
-    few-indices c.args.bytes.now c.args.coordinates.now c.args.indices.now c.requires
-    c.word_at-vertices.result c.word_at-count.result c.word_at-vertices.ensures c.word_at-count.ensures c.short-then-indices-count.result c.short-then-indices-count.ensures (omega arith) (omega arith)
+    little-room c.args.bytes.now c.args.coordinates.now c.args.indices.now c.requires
+    c.word_at-vertices.result c.word_at-count.result c.word_at-vertices.ensures c.word_at-count.ensures
+    c.short.result c.short.ensures c.then-coordinates-vertices.either
 
 pub returns : goal.returns
 returns c =
