@@ -11,7 +11,7 @@ ghost use Rattle.mesh_read.specs.Reading.{left, refused, copied, reading};
 use little_endian::word_at;
 use mesh_checks::check_record;
 use refusals::Refusal;
-use words_read::{copy_floats, copy_words};
+use words_read::copy_words;
 
 // What the reader answers. A field that the cause does not use is 0.
 #[repr(C)]
@@ -66,8 +66,8 @@ fn copy_mesh(bytes: &[u8], coordinates: &mut [f32], indices: &mut [u32]) -> Read
     if coordinates.len() < 3 * vertices || indices.len() < count {
         return ReadAnswer::short(vertices, count);
     }
-    copy_floats(bytes, 28, 3 * vertices, coordinates);
-    copy_words(bytes, 28 + 12 * vertices, count, indices);
+    copy_words(&bytes[28..], &mut coordinates[..3 * vertices]);
+    copy_words(&bytes[28 + 12 * vertices..], &mut indices[..count]);
     ReadAnswer {
         cause: 0,
         size: word_at(bytes, 4),

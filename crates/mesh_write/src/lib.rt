@@ -10,7 +10,7 @@ ghost use Rattle.mesh_write.specs.Writing.{mesh_of, mesh_lent, fields_of, Fits, 
 use little_endian::bits_of;
 use mesh_record::{check_opening, is_finite};
 use refusals::Refusal;
-use words_write::{put_floats, put_words};
+use words_write::put_words;
 
 // What the writer answers. A field that the cause does not use is 0.
 #[repr(C)]
@@ -126,9 +126,9 @@ impl<'a> LentMesh<'a> {
         }
         let offset = 28 + 12 * vertices;
         let header = [1, self.size, self.numbering, vertices, 28, count, offset];
-        put_words(out, 0, &header);
-        put_floats(out, 28, self.coordinates);
-        put_words(out, indices_at, self.indices);
+        put_words(out, &header);
+        put_words(&mut out[28..], self.coordinates);
+        put_words(&mut out[indices_at..], self.indices);
         WriteAnswer::done(end)
     }
 }

@@ -16,8 +16,8 @@ module _ {A : Type 0} (l buffer : List A) where
       let turn = paste-suc buffer 0 l i d (omega arith) within in
       simp (zero-add, ← add-one) at turn
 
-  pub copied_to-end : (i : ℕ) → i ≡ length l → length buffer ≤ i → copied_to l buffer i ≡ l
-  copied_to-end i e all = rw (drop_all i buffer all, e, take-length l) (append-nil l)
+  pub copied_to-end : (current : List A) (i : ℕ) → current ≡ copied_to l buffer i → i ≡ length l → length buffer ≤ i → current ≡ l
+  copied_to-end current i is e all = is ∙ rw (drop_all i buffer all, e, take-length l) (append-nil l)
 
   pub copied_next : (current : List A) (i : ℕ) (d value : A) → i < length l → i < length buffer → current ≡ copied_to l buffer i → value ≡ get_or l i d
       → set current i value ≡ copied_to l buffer (i + 1)

@@ -1,5 +1,5 @@
 -- `copy_words`: after i turns the front of the buffer has the first i words, and the rest is as it was.
-use Rattle.std.proofs.Common.{◌≡◌, ◌<◌, map, length, ◌∙◌, arith}
+use Rattle.std.proofs.Common.{◌≡◌, ◌<◌, map, length, arith}
 use Rattle.little_endian.specs.Words.{words_from}
 use Rattle.words_read.proofs.Turns.{copied_to-end, copied_next, copied-length, copied-at}
 use Rattle.words_read.proofs.copy_words.Goals as goal
@@ -24,4 +24,4 @@ returns g c =
     let l = map f (words_from bytes 0 (length buffer)) in
     let i = c.loop-i.i in
     let all : i ≡ length l = omega (arith, copied-length f bytes (length buffer) c.requires) in
-    c.loop-i.invariant ∙ copied_to-end l buffer i all c.loop-i-test.false
+    copied_to-end l buffer c.loop-i.buffer i c.loop-i.invariant all c.loop-i-test.false
