@@ -1,21 +1,17 @@
 -- The mesh in a record of the right length, and what the searches among its bytes find. `check_contents`, the reader and the round trips cite these.
 use mathlib.Core.Path.{◌≡◌, sym, ap, ap₂, ◌∙◌}
-use mathlib.Core.Bool.{not}
 use mathlib.Core.List.{List, map}
 use Prim.Native.Nat.{ℕ, ◌+◌, ◌-◌, ◌*◌, ◌/◌, ◌≤◌}
 use native.Mathlib.Omega.{arith}
-use lib.ListN.{length, take, drop, length-take, length-drop}
+use lib.ListN.{length, take, drop, length-drop}
 use lib.Seq.{take_all, drop-drop}
-use Rattle.std.proofs.Common.{Option, Some, None, w32}
+use Rattle.std.proofs.Common.{w32}
 use Rattle.std.specs.Int.{from_le_bytes}
-use Rattle.std.specs.List.{position}
 use Rattle.std.specs.Simd.{first_chunks}
-use Rattle.little_endian.specs.Words.{word_at, words, words_from}
+use Rattle.little_endian.specs.Words.{word_at, words}
 use Rattle.little_endian.proofs.Words.{words-length}
 use Rattle.little_endian.proofs.Runs.{words_from-length}
-use Rattle.mesh_record.specs.Mesh.{vertex_count, finite, below}
-use Rattle.mesh_record.specs.Refusals.{lowest_bad}
-use Rattle.mesh_record.proofs.LowestBad.{lowest_bad-map}
+use Rattle.mesh_record.specs.Mesh.{vertex_count}
 use Rattle.mesh_checks.specs.Reading.{mesh_in}
 use Rattle.mesh_checks.proofs.Chunks.{chunk-words, words-take}
 

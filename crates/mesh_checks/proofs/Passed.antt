@@ -10,7 +10,7 @@ use borrow.Author.Tests.{ltb-false, eqb-true, not-false, le-ltb, eq-eqb}
 use Rattle.std.proofs.Common.{Err}
 use Rattle.refusals.specs.declared.Refusal.{Refusal}
 use Rattle.little_endian.specs.Words.{word_at}
-use Rattle.mesh_record.specs.Refusals.{Checked, none, differ, in_threes, opening, contents}
+use Rattle.mesh_record.specs.Refusals.{none, differ, in_threes, opening, contents}
 use Rattle.mesh_record.proofs.Passed.{check-passed, part-passed, Opened, opening-known, opening-passed, Sound, contents-known, contents-passed}
 use Rattle.mesh_checks.specs.Reading.{mesh_in, fields_in, refusal_in}
 

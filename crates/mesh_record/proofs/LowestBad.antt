@@ -1,5 +1,5 @@
 -- What the search for the lowest bad word says of the words where it finds none. The checks, the reader, the writer and the round trips cite these.
-use Rattle.std.proofs.Common.{◌≡◌, ◌<◌, ◌≤◌, refl, arith, Bool, true, false, cond, not, ltb, List, [], ◌∷◌, ℕ, length, get_or, map, Option, Some, None}
+use Rattle.std.proofs.Common.{◌≡◌, ◌<◌, ◌≤◌, refl, arith, Bool, true, false, cond, not, ltb, List, [], ◌∷◌, ℕ, length, get_or, map, Some, None}
 use lib.ListN.{length-map}
 use Rattle.std.specs.List.{prefix_len, position}
 use Rattle.std.proofs.lemmas.List.Sums.{prefix_len_passes, prefix_len_is}

@@ -12,7 +12,7 @@ use Rattle.refusals.specs.declared.Refusal.{Refusal}
 use Rattle.refusals.specs.declared.Refusal.TheVariants.{Size, Numbering, SampleCount, WorkingMemory, Sample, Malformed}
 use Rattle.refusals.specs.Causes.{cause_of}
 use Rattle.mesh_record.specs.Mesh.{Mesh, vertex_count, finite, below}
-use Rattle.mesh_record.specs.Refusals.{Checked, none, malformed, bad_size, bad_numbering, malformed_word, differ, opening, lowest_bad, contents}
+use Rattle.mesh_record.specs.Refusals.{Checked, none, malformed_word, differ, opening, lowest_bad, contents}
 use Rattle.mesh_record.proofs.LowestBad.{lowest_bad-none, none-lowest_bad}
 
 -- ---- one refusal, one check, one part

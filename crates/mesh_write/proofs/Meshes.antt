@@ -1,16 +1,16 @@
 -- The refusal of a mesh from those of its parts, with the counts as the code has them. `check_contents`, `check_mesh` and `write_mesh` cite these.
-use mathlib.Core.Path.{◌≡◌, sym, ap, ◌∙◌}
+use mathlib.Core.Path.{◌≡◌, sym, ◌∙◌}
 use mathlib.Core.List.{List, map}
 use Prim.Native.Nat.{ℕ, ◌+◌, ◌*◌, ◌/◌}
 use lib.ListN.{length, length-map}
 use lib.Ieee.{Float, binary32, to_bits}
-use Rattle.std.proofs.Common.{Some, None, Ok, Err}
+use Rattle.std.proofs.Common.{Some, None, Err}
 use Rattle.std.specs.Result.{result_and}
 use Rattle.refusals.specs.declared.Refusal.{Refusal}
 use Rattle.mesh_record.specs.Mesh.{Mesh, finite, below}
-use Rattle.mesh_record.specs.Refusals.{Checked, none, malformed, opening, lowest_bad, contents}
+use Rattle.mesh_record.specs.Refusals.{none, malformed, opening, lowest_bad, contents}
 use Rattle.mesh_record.proofs.Passed.{part-passed}
-use Rattle.mesh_write.specs.Writing.{mesh_of, Fits, fields_of, refusal_of, Written, left, refused, put, writing}
+use Rattle.mesh_write.specs.Writing.{mesh_of, Fits, fields_of, refusal_of, left, refused, put, writing}
 use Rattle.mesh_write.proofs.Fields.{fields_of-known}
 
 pub bits-length : (coordinates : List Float) → length (map (to_bits binary32) coordinates) ≡ length coordinates

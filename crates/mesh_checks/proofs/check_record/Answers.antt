@@ -1,12 +1,9 @@
 -- `check_record`: the parts in the order of the definition; what the fields showed lets the contents be read.
-use mathlib.Core.Path.{◌≡◌, sym, ap, ◌∙◌}
+use mathlib.Core.Path.{sym, ◌∙◌}
 use native.Mathlib.Omega.{arith}
 use borrow.Author.Tests.{lt-ltb}
 use lib.ListN.{length}
-use Rattle.std.proofs.Common.{Err}
 use Rattle.std.proofs.lemmas.Result.{err_from_is_err_and}
-use Rattle.little_endian.specs.Words.{word_at}
-use Rattle.mesh_record.specs.Refusals.{opening}
 use Rattle.mesh_checks.specs.Reading.{refusal_in}
 use Rattle.mesh_checks.proofs.Passed.{refusal_in-opening, refusal_in-fields, refusal_in-contents, fields_in-known}
 use Rattle.mesh_checks.proofs.check_record.Goals as goal

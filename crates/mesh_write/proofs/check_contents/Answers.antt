@@ -1,14 +1,13 @@
 -- `check_contents`: the vertices are searched before the indices, which will lie after them.
 use mathlib.Core.Path.{◌≡◌, sym, ◌∙◌}
-use Rattle.std.proofs.Common.{rules, tests, not, map, List, ℕ}
+use Rattle.std.proofs.Common.{rules, tests, not}
 use Rattle.std.specs.List.{position}
 use Rattle.std.proofs.lemmas.Iterator.{YieldsList-from_slice}
 use Rattle.std.proofs.lemmas.Iterator.Search.{position_from_yields_List}
 use lib.ListN.{length}
-use lib.Ieee.{Float, binary32, to_bits}
+use lib.Ieee.{binary32, to_bits}
 use Prim.Native.Nat.{◌/◌}
 use Rattle.mesh_record.specs.Mesh.{finite, below}
-use Rattle.mesh_record.specs.Refusals.{lowest_bad}
 use Rattle.mesh_record.proofs.LowestBad.{lowest_bad-map, position-lowest_bad}
 use Rattle.mesh_write.proofs.Meshes.{contents_of-coordinate, contents_of-index, contents_of-passed}
 use Rattle.mesh_write.proofs.check_contents.Goals as goal
