@@ -1,4 +1,3 @@
 pub mod Words
 pub mod Bytes
 pub mod Runs
-pub mod NanBits

@@ -9,6 +9,8 @@ ghost use Rattle.std.specs.Float.{binary32};
 ghost use Rattle.std.specs.Float.Ieee.{of_bits, to_bits};
 ghost use Rattle.little_endian.specs.Words.{word_at, word_bytes};
 
+use std::num::{f32_from_bits_with_nan, f32_to_bits_with_nan};
+
 // The u32 that begins at a byte place.
 pub fn word_at(bytes: &[u8], at: usize) -> u32
     requires { at + 4 ≤ length bytes.now }
@@ -25,23 +27,18 @@ pub fn put_word(bytes: &mut [u8], at: usize, value: u32)
     bytes[at..at + 4].copy_from_slice(&value.to_le_bytes());
 }
 
-// The float with these bits. A NaN's bits give a NaN, and not always the same bits: the language
-// makes no float of them.
+// The float with these bits. A NaN's bits give a NaN, and not always the same bits.
 pub fn float_of(bits: u32) -> f32
     ensures { result ≡ of_bits binary32 bits }
 {
-    if bits & 0x7FFF_FFFF > 0x7F80_0000 {
-        f32::NAN
-    } else {
-        f32::from_bits(bits)
-    }
+    f32_from_bits_with_nan(bits)
 }
 
-// The bits of a float. The language gives none for a NaN; the pattern here is the model's.
+// The bits of a float. A NaN has the model's pattern.
 pub fn bits_of(x: f32) -> u32
     ensures { result ≡ to_bits binary32 x }
 {
-    if x.is_nan() { 0x7FC0_0000 } else { x.to_bits() }
+    f32_to_bits_with_nan(x)
 }
 
 // A value that stands in a record as the four bytes of a word: a u32 as it is, an f32 by its bits.
