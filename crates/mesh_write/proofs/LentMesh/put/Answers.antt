@@ -1,4 +1,4 @@
--- `put_mesh`: the room is tried before anything is written; then the header, the vertices and the indices, one after another.
+-- `put`: the room is tried before anything is written; then the header, the vertices and the indices, one after another.
 use native.Mathlib.Omega.{arith}
 use Rattle.mesh_write.proofs.Puts.{put-short, put-done}
 use Rattle.mesh_write.proofs.LentMesh.put.Goals as goal
