@@ -1,4 +1,4 @@
--- What is known of a record where a check refuses nothing, and the refusal of a record from those of its parts. `check_record` and the round trips
+-- What is known of a record where a check refuses nothing, and that nothing else is asked of it. `check_record`, the reader and the round trips
 -- cite these.
 use mathlib.Core.Path.{◌≡◌}
 use mathlib.Core.Bool.{not}
@@ -7,8 +7,6 @@ use Prim.Native.Nat.{ℕ, ◌+◌, ◌*◌, ◌%◌, ◌≤◌}
 use lib.Dec.{ltb}
 use lib.ListN.{length}
 use borrow.Author.Tests.{ltb-false, eqb-true, not-false, le-ltb, eq-eqb}
-use Rattle.std.proofs.Common.{Err}
-use Rattle.refusals.specs.declared.Refusal.{Refusal}
 use Rattle.little_endian.specs.Words.{word_at}
 use Rattle.mesh_record.specs.Refusals.{none, differ, in_threes, opening, contents}
 use Rattle.mesh_record.proofs.Passed.{check-passed, part-passed, Opened, opening-known, opening-passed, Sound, contents-known, contents-passed}
@@ -43,22 +41,6 @@ fields_in-passed bytes fields =
       eq-eqb (word_at bytes 24) (28 + 12 * word_at bytes 12) fields.indices-at,
       eq-eqb (length bytes) (28 + 12 * word_at bytes 12 + 4 * word_at bytes 20) fields.whole,
     )
-
--- ---- a record, from its parts
-
-module _ (bytes : List ℕ) (long : 28 ≤ length bytes) where
-  pub refusal_in-opening : (refusal : Refusal) → Err refusal ≡ opening (word_at bytes 0) (word_at bytes 4) (word_at bytes 8) → Err refusal ≡ refusal_in bytes
-  unfolding refusal_in
-  refusal_in-opening refusal is = rw (le-ltb (length bytes) 28 long, ← is)
-
-  module _ (opened : none ≡ opening (word_at bytes 0) (word_at bytes 4) (word_at bytes 8)) where
-    pub refusal_in-fields : (refusal : Refusal) → Err refusal ≡ fields_in bytes → Err refusal ≡ refusal_in bytes
-    unfolding refusal_in
-    refusal_in-fields refusal is = rw (le-ltb (length bytes) 28 long, ← opened, ← is)
-
-    pub refusal_in-contents : none ≡ fields_in bytes → contents 28 (mesh_in bytes) ≡ refusal_in bytes
-    unfolding refusal_in
-    refusal_in-contents fields = rw (le-ltb (length bytes) 28 long, ← opened, ← fields)
 
 -- what is known of a record in which nothing is refused
 pub record Whole (bytes : List ℕ) : Type 0 where

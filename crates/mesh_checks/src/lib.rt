@@ -57,6 +57,7 @@ fn check_contents(bytes: &[u8]) -> Result<(), Refusal>
 }
 
 // The first refusal of a record, or none.
+#[tactic(auto, unfolding(crate::specs::Reading::refusal_in))]
 pub fn check_record(bytes: &[u8]) -> Result<(), Refusal>
     ensures { result ≡ refusal_in bytes.now }
 {

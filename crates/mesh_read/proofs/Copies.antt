@@ -1,4 +1,4 @@
--- What the reader leaves, by the room of the two buffers and by the refusal. `copy_mesh` and `read_mesh` cite these.
+-- What the reader leaves, by the room of the two buffers. `copy_mesh` and the round trips cite these.
 use mathlib.Core.Path.{◌≡◌, sym, ap, ap₂, ◌∙◌}
 use mathlib.Core.Logic.{◌⊎◌, inl, inr}
 use mathlib.Core.List.{List, map}
@@ -7,14 +7,12 @@ use native.Mathlib.Omega.{arith}
 use lib.ListN.{length}
 use lib.Ieee.{Float, binary32, of_bits}
 use borrow.Author.Tests.{lt-ltb, le-ltb}
-use Rattle.std.proofs.Common.{Err}
-use Rattle.refusals.specs.declared.Refusal.{Refusal}
 use Rattle.little_endian.specs.Words.{word_at, words_from, over}
 use Rattle.mesh_read.specs.declared.ReadAnswer.{ReadAnswer}
 use Rattle.mesh_record.specs.Mesh.{Mesh}
 use Rattle.mesh_record.specs.Refusals.{none}
 use Rattle.mesh_checks.specs.Reading.{mesh_in, refusal_in}
-use Rattle.mesh_read.specs.Reading.{left, refused, short, done, copied, reading}
+use Rattle.mesh_read.specs.Reading.{left, short, done, copied, reading}
 use Rattle.mesh_checks.proofs.Contents.{coordinates-length, indices-length, mesh_in-vertices}
 
 module _ (m : Mesh) (coordinates : List Float) (indices : List ℕ) where
@@ -68,10 +66,6 @@ module _ (bytes : List ℕ) (coordinates : List Float) (indices : List ℕ) (who
       ∙ copied-done (mesh_in bytes) coordinates indices (omega (arith, r, hv, coordinates-length bytes whole)) (omega (arith, q, hk, indices-length bytes whole))
 
 module _ (bytes : List ℕ) (coordinates : List Float) (indices : List ℕ) where
-  pub reading-refused : (refusal : Refusal) → Err refusal ≡ refusal_in bytes → left (refused refusal) coordinates indices ≡ reading bytes coordinates indices
-  unfolding reading
-  reading-refused refusal is = rw (← is)
-
   pub reading-passed : none ≡ refusal_in bytes → copied (mesh_in bytes) coordinates indices ≡ reading bytes coordinates indices
   unfolding reading
   reading-passed is = rw (← is)

@@ -81,6 +81,7 @@ fn copy_mesh(bytes: &[u8], coordinates: &mut [f32], indices: &mut [u32]) -> Read
 // The mesh of a record, or the first refusal in document 02's order. After 0 the coordinates and the
 // indices stand at the start of both buffers and the rest is unchanged; after anything else nothing
 // lent has changed, and after 10 the answer has the V and I to make room for.
+#[tactic(auto, unfolding(crate::specs::Reading::reading))]
 pub fn read_mesh(bytes: &[u8], coordinates: &mut [f32], indices: &mut [u32]) -> ReadAnswer
     ensures whole { left result coordinates.new indices.new ≡ reading bytes.now coordinates.old indices.old }
 {

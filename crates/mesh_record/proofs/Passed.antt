@@ -1,4 +1,4 @@
--- What is known where a check refuses nothing. The reader, the writer and the round trips cite these.
+-- What is known where a check refuses nothing, and that nothing else is asked. The reader, the writer and the round trips cite these.
 use mathlib.Core.Path.{◌≡◌, refl, subst}
 use mathlib.Core.Bool.{Bool, true, false, cond, ◌||◌}
 use Prim.Native.Nat.{ℕ, ◌+◌, ◌*◌, ◌≤◌, ◌<◌}

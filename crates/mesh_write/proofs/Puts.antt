@@ -1,4 +1,4 @@
--- A record put in three parts, one after another, is the record: its header, its vertices, its indices. `put_mesh` cites these.
+-- A record put in three parts, one after another, is the record: its header, its vertices, its indices. `put` and the round trips cite these.
 use mathlib.Core.Path.{◌≡◌, sym, ap, ap₂, ◌∙◌}
 use mathlib.Core.List.{List, [], ◌∷◌, ◌++◌, map}
 use Prim.Native.Nat.{ℕ, ◌+◌, ◌*◌, ◌/◌, ◌≤◌, ◌<◌}

@@ -104,6 +104,7 @@ pub struct LentMesh<'a> {
 
 impl<'a> LentMesh<'a> {
     // The first refusal of a mesh, or none.
+    #[tactic(auto, using(crate::proofs::Meshes::refusal_of_parts))]
     fn check(&self, version: u32) -> Result<(), Refusal>
         ensures { result ≡ refusal_of version (mesh_lent self.now) }
     {
@@ -136,6 +137,7 @@ impl<'a> LentMesh<'a> {
 // The record of a mesh, or the first refusal in document 02's order. After 0 the record stands at the
 // start of the output and the rest is unchanged; after anything else nothing lent has changed, and
 // after 10 the answer has the bytes to make room for.
+#[tactic(auto, unfolding(crate::specs::Writing::writing))]
 pub fn write_mesh(version: u32, mesh: &LentMesh, out: &mut [u8]) -> WriteAnswer
     ensures whole { left result out.new ≡ writing version (mesh_lent mesh.now) out.old }
 {

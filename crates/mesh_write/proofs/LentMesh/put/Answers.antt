@@ -1,4 +1,4 @@
--- `put_mesh`: the room is tried before anything is written; then the header, the vertices and the indices, one after another.
+-- `put`: the room is tried before anything is written; then the header, the vertices and the indices, one after another.
 use Rattle.std.proofs.Common.{◌≡◌, ℕ, ◌+◌, ◌-◌, ◌*◌, ◌/◌, List, [], ◌∷◌, length, take, drop, map, ap, ◌∙◌, arith}
 use Rattle.std.proofs.Math.ListN.{length-map}
 use Rattle.std.proofs.Math.Seq.{length-sets}
