@@ -9,24 +9,23 @@ use lib.ListN.{length, take, drop}
 use lib.Seq.{take-length, take-append_seam}
 use lib.Ieee.{Float}
 use borrow.Author.Tests.{eq-eqb, ne_eqb}
-use Rattle.sample_record.specs.declared.Record.{Record}
-use Rattle.sample_record.specs.declared.Record.TheVariants.{Holds, Malformed, BadSize, BadNumbering, BadCount}
+use Rattle.std.specs.Prelude.{Result, Ok, Err}
+use Rattle.refusals.specs.declared.Refusal.{Refusal}
+use Rattle.sample_record.specs.declared.Header.{Header}
 use Rattle.sample_record.specs.Record.{cause_of, size_of, numbering_of, record_of}
 use Rattle.record_answer.specs.declared.RecordAnswer.{RecordAnswer}
 use Rattle.record_answer.specs.Record.{record_answer}
 use Rattle.record_samples.specs.Samples.{samples_of, copied}
+use Rattle.refusals.proofs.Causes.{cause-some}
 use Rattle.sample_record.proofs.Accepted.{Accepted, record_of-accepted}
 use Rattle.listing_words.specs.Put.{Put}
 use Rattle.listing_text.specs.Lines.{refused_line}
 use Rattle.listing_words.proofs.Putting.{put_front}
 use Rattle.listing.specs.Listing.{grid_text, listing_of}
 
-holds_of : (answer : Record) → cause_of answer ≡ 0 → answer ≡ Holds (size_of answer) (numbering_of answer)
-holds_of (Holds size numbering) h = refl
-holds_of (Malformed place) h = absurd (omega (arith, h))
-holds_of BadSize h = absurd (omega (arith, h))
-holds_of BadNumbering h = absurd (omega (arith, h))
-holds_of BadCount h = absurd (omega (arith, h))
+taken : (bytes : List ℕ) (found : Result Header Refusal) → record_of 7 bytes ≡ found → cause_of found ≡ 0 → Accepted 7 bytes (size_of found) (numbering_of found)
+taken bytes (Ok header) is none = record_of-accepted 7 bytes header is
+taken bytes (Err refusal) is none = absurd (cause-some refusal none)
 
 pub sample_count-le : (n : ℕ) → n ≤ 7 → n * n * (n + 1) ≤ 392
 sample_count-le n h =
@@ -53,9 +52,7 @@ module _ (bytes : List ℕ) (answer : RecordAnswer) (is : answer ≡ record_answ
   listing-grid samples g none = rw (is, eq-eqb (cause_of (record_of 7 bytes)) 0 (sym (ap (λ (a : RecordAnswer). a.cause) is) ∙ none), g) refl
 
   pub accepted-of : answer.cause ≡ 0 → Accepted 7 bytes answer.size answer.numbering
-  accepted-of none =
-      rw (is) (record_of-accepted 7 bytes (size_of (record_of 7 bytes)) (numbering_of (record_of 7 bytes))
-      (holds_of (record_of 7 bytes) (sym (ap (λ (a : RecordAnswer). a.cause) is) ∙ none)))
+  accepted-of none = rw (is) (taken bytes (record_of 7 bytes) refl (sym (ap (λ (a : RecordAnswer). a.cause) is) ∙ none))
 
 -- the text at the front of the program's buffer
 pub front_of : (text new piece : List ℕ) (end : ℕ) → Put text 0 piece new end → end ≤ 191622 → 191622 ≤ length text → take end new ≡ piece
