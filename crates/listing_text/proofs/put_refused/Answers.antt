@@ -1,16 +1,7 @@
 -- `put_refused`: a word, a number, a word, a number and the newline, one after another.
-use mathlib.Core.Path.{◌≡◌}
-use Prim.Native.Nat.{◌+◌}
-use native.Mathlib.Omega.{arith}
-use Rattle.listing_words.proofs.Putting.{put_then}
+use Rattle.listing_words.proofs.Putting.{puts_then}
 use Rattle.listing_text.proofs.put_refused.Goals as goal
 
-pub returns : goal.returns
-returns c =
-    let begun : c.put_bytes-first.result ≡ c.args.at + 7 = c.put_bytes-first.ensures.ends in
-    let between : c.put_bytes-third.result ≡ c.put_number-second.result + 3 = c.put_bytes-third.ensures.ends in
-    let ended : c.put_bytes.result ≡ c.put_number-end.result + 1 = c.put_bytes.ensures.ends in
-    record {
-      put = put_then (put_then (put_then (put_then c.put_bytes-first.ensures c.put_number-second.ensures.put) c.put_bytes-third.ensures) c.put_number-end.ensures.put) c.put_bytes.ensures;
-      upper_bound = omega (arith, begun, c.put_number-second.ensures.upper_bound, between, c.put_number-end.ensures.upper_bound, ended);
-    }
+pub returns-clause-puts : goal.returns-clause-puts
+returns-clause-puts c =
+    puts_then (puts_then (puts_then (puts_then c.put_bytes.ensures c.put_number.ensures.puts) c.put_bytes-2.ensures) c.put_number-2.ensures.puts) c.put_bytes-3.ensures
