@@ -1,12 +1,12 @@
 -- What lines are of a slice that is longer, and how long the lines of vertices are.
-use mathlib.Core.Path.{◌≡◌, refl, ap, ◌∙◌}
+use mathlib.Core.Path.{◌≡◌, refl}
 use mathlib.Core.List.{List, ◌++◌}
 use Prim.Native.Nat.{ℕ, zero, suc, ◌+◌, ◌*◌, ◌≤◌, ◌<◌}
 use native.Mathlib.Nat.{lt-suc_self, lt_trans}
 use native.Mathlib.Omega.{arith}
 use lib.ListN.{length, get_or, length-append, get_or-append}
 use lib.Ieee.{Float, nan, binary32, to_bits}
-use Rattle.listing_words.specs.Digits.{digits, float_word}
+use Rattle.listing_words.specs.Digits.{float_word}
 use Rattle.listing_words.proofs.Digits.{digits-length}
 use Rattle.listing_runs.specs.Runs.{line_at, lines_of, vertex_line, vertex_line_at}
 

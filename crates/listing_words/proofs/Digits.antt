@@ -9,7 +9,7 @@ use lib.ListN.{length, length-append}
 use borrow.Author.Tests.{lt-ltb, le-ltb}
 use Rattle.listing_words.specs.declared.Text.{Text}
 use Rattle.listing_words.specs.Put.{Puts}
-use Rattle.listing_words.specs.Digits.{glyph, digits, decimal, places_within}
+use Rattle.listing_words.specs.Digits.{glyph, digits, places_within}
 use Rattle.listing_words.proofs.Putting.{puts_then}
 
 pub digits-length : (base places n : ℕ) → length (digits base places n) ≡ places

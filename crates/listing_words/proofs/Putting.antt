@@ -2,12 +2,11 @@
 use mathlib.Core.Path.{◌≡◌, refl, sym, ap, ◌∙◌}
 use mathlib.Core.List.{List, [], ◌∷◌, ◌++◌, append_assoc}
 use Prim.Native.Nat.{ℕ, ◌+◌, ◌-◌, ◌≤◌}
-use native.Mathlib.Nat.{zero-add, add-suc, suc-add}
-use native.Mathlib.Numerals.{add-one}
+use native.Mathlib.Nat.{zero-add}
 use native.Mathlib.Omega.{arith}
 use borrow.Rule.Slice.PartMut.{put_mid, post_of, Post-is}
-use lib.ListN.{length, get_or, take, drop, set, length-append}
-use lib.Seq.{sets, sets-eq, length-sets, take-suc, take-append_seam}
+use lib.ListN.{length, take, drop, set, length-append}
+use lib.Seq.{sets, sets-eq, length-sets, take-append_seam}
 use Rattle.little_endian.proofs.Bytes.{sets-append}
 use Rattle.listing_words.specs.Put.{Put, Puts}
 use Rattle.listing_words.specs.declared.Text.{Text}

@@ -1,5 +1,5 @@
 -- `put_lines`: a turn puts one line more, and after the last turn fewer than three words are left.
-use Rattle.std.proofs.Common.{◌≡◌, ◌+◌, ◌≤◌, ◌<◌, length, arith, ap, ◌∙◌, length-append}
+use Rattle.std.proofs.Common.{◌≤◌, ◌<◌, length, arith, ap, ◌∙◌, length-append}
 use Rattle.listing_runs.proofs.Runs.{listed-more, room-more, all-listed}
 use Rattle.listing_runs.proofs.put_lines.Goals as goal
 

@@ -1,6 +1,5 @@
 -- `put_float`: the space is put, then eight digits of the bits.
-use Rattle.std.proofs.Common.{subst, ◌∷◌, []}
-use lib.Ieee.{binary32, to_bits}
+use Rattle.std.proofs.Common.{subst}
 use Rattle.listing_words.specs.Put.{Puts}
 use Rattle.listing_words.specs.Digits.{digits, float_word}
 use Rattle.listing_words.proofs.Putting.{puts_then}
