@@ -1,6 +1,6 @@
 -- The bytes of a record and the text owed for them: what is known of an accepted record, which samples are lent, and the definition by its test.
 -- `list` cites these.
-use mathlib.Core.Path.{◌≡◌, refl, sym, ap, ◌∙◌, subst}
+use mathlib.Core.Path.{◌≡◌, refl, sym, ap, ◌∙◌}
 use mathlib.Core.List.{List, ◌++◌}
 use Prim.Native.Nat.{ℕ, ◌+◌, ◌*◌, ◌≤◌, min}
 use native.Mathlib.Nat.{mul-le-mul}
@@ -9,16 +9,16 @@ use lib.ListN.{length, take, drop}
 use lib.Seq.{take-length, take-append_seam}
 use lib.Ieee.{Float}
 use borrow.Author.Tests.{ne_eqb}
-use Rattle.std.specs.Prelude.{Ok, Err}
+use Rattle.std.specs.Prelude.{Result, Ok, Err}
 use Rattle.refusals.specs.declared.Refusal.{Refusal}
 use Rattle.sample_record.specs.declared.Header.{Header}
 use Rattle.refusals.specs.Causes.{cause_of, place_of}
 use Rattle.numbering.specs.Word.{word_of}
 use Rattle.sample_record.specs.Record.{record_of}
+use Rattle.sample_record.specs.Record as sample_record
 use Rattle.record_samples.specs.Samples.{samples_of, copied}
 use Rattle.refusals.proofs.Causes.{cause-some}
-use Rattle.listing_words.specs.Put.{Put, Puts}
-use Rattle.listing_words.specs.declared.Text.{Text}
+use Rattle.listing_words.specs.Put.{Put}
 use Rattle.listing_text.specs.Lines.{refused_line}
 use Rattle.listing_words.proofs.Putting.{put_front}
 use Rattle.listing.specs.Listing.{grid_text, listing_of}
@@ -37,6 +37,12 @@ lent-samples bytes buffer count whole room =
     let front : take count samples ≡ samples = ap (λ (k : ℕ). take k samples) (sym whole) ∙ take-length samples in
     rw (all, front) (ap (λ (k : ℕ). take k (samples ++ drop count buffer)) (sym whole) ∙ take-append_seam samples (drop count buffer))
 
+-- a record with no cause is an accepted one
+pub holds_of : (answer : Result Header Refusal) → sample_record.cause_of answer ≡ 0
+    → (header : Header) × (answer ≡ Ok header) × (sample_record.size_of answer ≡ header.size) × (sample_record.numbering_of answer ≡ word_of header.numbering)
+holds_of (Ok header) h = (header, refl, refl, refl)
+holds_of (Err refusal) h = absurd (cause-some refusal h)
+
 -- ---- the definition by what the record is
 
 module _ (bytes : List ℕ) where
@@ -47,7 +53,5 @@ module _ (bytes : List ℕ) where
   listing-grid header is = rw is refl
 
 -- the text at the front of the program's buffer
-pub front_of : (text new : Text) (piece : List ℕ) → Puts text piece new → text.end ≡ 0 → new.end ≤ length text.bytes.now → take new.end new.bytes.now ≡ piece
-front_of text new piece h start short =
-    let put = subst (λ (k : ℕ). Put text.bytes.now k piece new.bytes.now new.end) start h.put in
-    put_front put (omega (arith, put.ends))
+pub front_of : (text new piece : List ℕ) (end : ℕ) → Put text 0 piece new end → end ≤ length text → take end new ≡ piece
+front_of text new piece end h short = put_front h (omega (arith, h.ends))

@@ -1,9 +1,9 @@
 -- What the extraction answers to the program, told by the answer's cause: the text that the definition has for the grid. `list_grid` cites
--- `own-refused` and `own-mesh`.
+-- `own-refused`, `own-mesh` and `own_room`.
 use mathlib.Core.Path.{◌≡◌, refl, sym, ap, ◌∙◌, subst}
 use mathlib.Core.Logic.{⊎_elim}
-use mathlib.Core.List.{List, map}
-use Prim.Native.Nat.{ℕ, ◌+◌, ◌*◌, ◌≤◌, ◌<◌}
+use mathlib.Core.List.{List, ◌++◌, map}
+use Prim.Native.Nat.{ℕ, ◌+◌, ◌*◌, ◌/◌, ◌≤◌, ◌<◌}
 use native.Mathlib.Omega.{arith}
 use lib.ListN.{length, take, drop, replicate, length-map}
 use lib.Seq.{take-append_seam}
@@ -19,9 +19,19 @@ use Rattle.lent_mesh.proofs.Floats.{floats_of-length}
 use Rattle.outcome.specs.Outcome.{Outcome, work_room, Surface, surface_of, over, refused, meshed, outcome}
 use Rattle.passes.proofs.Sizes.{square_le}
 use Rattle.marching_cubes.proofs.ByCause.{sample-bad, accepted, room-enough}
-use Rattle.listing_text.specs.Lines.{refused_line, mesh_text}
+use Rattle.listing_runs.specs.Runs.{lines_of, vertex_line_at, face_line_at}
+use Rattle.listing_runs.proofs.Lines.{vertex_lines-front, face_lines-front}
+use Rattle.listing_text.specs.Lines.{first_line, refused_line, mesh_text}
 use Rattle.listing.specs.Listing.{grid_text}
 use Rattle.listing.proofs.Room.{made-le, indices-le}
+
+-- the lines of a mesh are those of longer buffers that it stands at the front of
+mesh_text-front : (size numbering made : ℕ) (floats more : List Float) (indices others : List ℕ) → length floats ≡ 3 * made
+    → mesh_text size numbering floats indices
+    ≡ first_line size numbering made (length indices) ++ lines_of made (vertex_line_at (floats ++ more)) ++ lines_of (length indices / 3) (face_line_at (indices ++ others))
+mesh_text-front size numbering made floats more indices others e =
+    let count : length floats / 3 ≡ made = omega arith in
+    rw (count, vertex_lines-front floats more made (omega arith), face_lines-front indices others (length indices / 3) (omega arith)) refl
 
 -- what an outcome is to the text: the mesh stands at the front of its buffers
 pub record Lists (n numbering : ℕ) (samples : List Float) (o : Outcome) : Type 0 where
@@ -112,3 +122,6 @@ module _ (n : ℕ) (numbering : Numbering) (samples : List Float) (least : 2 ≤
   own-mesh =
       mesh-text n (word_of numbering) samples (replicate 434 0) (replicate 11340 (of_bits binary32 0)) (replicate 3780 0) least most (word_of-le numbering) whole work-enough
       (omega arith) (omega arith) o known
+
+  pub own_room : o.answer.cause ≡ 0 → (o.answer.vertices ≤ o.answer.indices) × (o.answer.indices ≤ 3780)
+  own_room none = let mesh = own-mesh none in (mesh.fewer, mesh.most)

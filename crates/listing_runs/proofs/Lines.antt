@@ -6,9 +6,9 @@ use native.Mathlib.Nat.{lt-suc_self, lt_trans}
 use native.Mathlib.Omega.{arith}
 use lib.ListN.{length, get_or, length-append, get_or-append}
 use lib.Ieee.{Float, nan, binary32, to_bits}
-use Rattle.listing_words.specs.Digits.{float_word}
+use Rattle.listing_words.specs.Digits.{number_word, float_word}
 use Rattle.listing_words.proofs.Digits.{digits-length}
-use Rattle.listing_runs.specs.Runs.{line_at, lines_of, vertex_line, vertex_line_at}
+use Rattle.listing_runs.specs.Runs.{line_at, lines_of, vertex_line, vertex_line_at, face_line_at}
 
 lines_of-same : (count : ℕ) (f g : ℕ → List ℕ) → ((i : ℕ) → i < count → f i ≡ g i) → lines_of count f ≡ lines_of count g
 lines_of-same zero f g h = refl
@@ -26,6 +26,14 @@ lines-front letter word missing words rest count h =
       get_or-append words rest missing (3 * i + 1) (omega arith),
       get_or-append words rest missing (3 * i + 2) (omega arith),
     ) refl)
+
+pub vertex_lines-front : (floats rest : List Float) (count : ℕ) → 3 * count ≤ length floats
+    → lines_of count (vertex_line_at (floats ++ rest)) ≡ lines_of count (vertex_line_at floats)
+vertex_lines-front floats rest count h = lines-front 118 float_word nan floats rest count h
+
+pub face_lines-front : (indices rest : List ℕ) (count : ℕ) → 3 * count ≤ length indices
+    → lines_of count (face_line_at (indices ++ rest)) ≡ lines_of count (face_line_at indices)
+face_lines-front indices rest count h = lines-front 102 number_word 0 indices rest count h
 
 float_word-length : (x : Float) → length (float_word x) ≡ 9
 unfolding float_word

@@ -3,11 +3,26 @@
 
 #![tactic(auto)]
 
-ghost use Rattle.std.specs.Prelude.{◌+◌, ◌≤◌};
+ghost use Rattle.std.specs.Prelude.{◌+◌, ◌++◌, ◌≤◌, length};
 ghost use Rattle.listing_words.specs.Put.{HasRoom, Puts};
+ghost use Rattle.listing_words.specs.Digits.{number_word};
+ghost use Rattle.listing_runs.specs.Runs.{newline};
 ghost use Rattle.listing_text.specs.Lines.{numbering_words, size_words, count_words, first_line, refused_line};
 
 use listing_words::Text;
+
+// Two numbers, each after its name, and the end of the line.
+fn put_pair(text: &mut Text<'_>, first: &[u8], m: u64, second: &[u8], n: u64)
+    requires { HasRoom text.old (length first.now + length second.now + 43) }
+    ensures puts { Puts text.old (first.now ++ number_word m ++ second.now ++ number_word n ++ newline) text.new }
+    ensures upper_bound { text.new.end ≤ text.old.end + (length first.now + length second.now + 43) }
+{
+    text.put_bytes(first);
+    text.put_number(m);
+    text.put_bytes(second);
+    text.put_number(n);
+    text.put_bytes(b"\n");
+}
 
 // A refusal's only line.
 pub fn put_refused(text: &mut Text<'_>, cause: u32, place: u64)
@@ -15,11 +30,7 @@ pub fn put_refused(text: &mut Text<'_>, cause: u32, place: u64)
     ensures puts { Puts text.old (refused_line cause place) text.new }
     ensures upper_bound { text.new.end ≤ text.old.end + 53 }
 {
-    text.put_bytes(b"refused");
-    text.put_number(cause as u64);
-    text.put_bytes(b" at");
-    text.put_number(place);
-    text.put_bytes(b"\n");
+    put_pair(text, b"refused", cause as u64, b" at", place);
 }
 
 // A word and no `Numbering`: what `put_first` takes may not narrow, and each word but 0 is listed as joined.
@@ -50,11 +61,7 @@ fn put_counts(text: &mut Text<'_>, vertices: u64, indices: u64)
     ensures puts { Puts text.old (count_words vertices indices) text.new }
     ensures upper_bound { text.new.end ≤ text.old.end + 60 }
 {
-    text.put_bytes(b" vertices");
-    text.put_number(vertices);
-    text.put_bytes(b" indices");
-    text.put_number(indices);
-    text.put_bytes(b"\n");
+    put_pair(text, b" vertices", vertices, b" indices", indices);
 }
 
 // The line before a mesh's lines.

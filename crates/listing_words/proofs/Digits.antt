@@ -2,7 +2,7 @@
 use mathlib.Core.Path.{◌≡◌, refl, sym, ap, ◌∙◌, subst}
 use mathlib.Core.List.{[], ◌∷◌}
 use Prim.Native.Nat.{ℕ, zero, suc, ◌+◌, ◌-◌, ◌*◌, ◌/◌, ◌%◌, ◌^◌, ◌≤◌, ◌<◌, max}
-use native.Mathlib.Nat.{pow-succ'}
+use native.Mathlib.Nat.{add_comm, pow-succ'}
 use native.Mathlib.Numerals.{add-one, sub-one}
 use native.Mathlib.Omega.{arith}
 use lib.ListN.{length, length-append}
@@ -28,19 +28,33 @@ digits-next {a} {b} {c} base (suc places) n byte some is h last =
 
 -- ---- how many digits a number has
 
+one-add : (k : ℕ) → 1 + k ≡ suc k
+one-add k = add_comm 1 k ∙ add-one k
+
+pub places_within-ten : (more n : ℕ) → (more ≡ 0 → ⊥) → 10 ≤ n → 1 + places_within (more - 1) (n / 10) ≡ places_within more n
+places_within-ten zero n some h = absurd (some refl)
+places_within-ten (suc more) n some h = rw (le-ltb n 10 h, sub-one (suc more)) (one-add (places_within more (n / 10)))
+
+pub places_within-one : (more n : ℕ) → n < 10 → 1 ≡ places_within more n
+places_within-one zero n h = refl
+places_within-one (suc more) n h = rw (lt-ltb n 10 h) refl
+
+pub places_within-none : (more n : ℕ) → more ≡ 0 → 1 ≡ places_within more n
+places_within-none more n h = rw h refl
+
 power-some : (k : ℕ) → 0 < 10 ^ k
 power-some zero = omega arith
 power-some (suc k) = let before = power-some k in rw pow-succ' (omega arith)
 
 places_within-log : (more k n : ℕ) → k ≤ more → 10 ^ k ≤ max n 1 → n < 10 * 10 ^ k → places_within more n ≡ k + 1
 places_within-log zero k n most least below = omega arith
-places_within-log (suc more) zero n most least below = rw (lt-ltb n 10 (omega arith)) refl
+places_within-log (suc more) zero n most least below = sym (places_within-one (suc more) n (omega arith))
 places_within-log (suc more) (suc k) n most least below =
     let power : 10 ^ suc k ≡ 10 * 10 ^ k = pow-succ' 10 k in
     let some : 0 < 10 ^ k = power-some k in
-    let large : 10 ≤ n = omega arith in
-    let fewer = places_within-log more k (n / 10) (omega arith) (omega arith) (omega arith) in
-    rw (le-ltb n 10 large, fewer) (sym (add-one (k + 1)) ∙ ap (λ (j : ℕ). j + 1) (add-one k))
+    let tens : 1 + places_within more (n / 10) ≡ places_within (suc more) n = rw sub-one at (places_within-ten (suc more) n (λ z. cc) (omega arith)) in
+    let fewer : places_within more (n / 10) ≡ k + 1 = places_within-log more k (n / 10) (omega arith) (omega arith) (omega arith) in
+    sym tens ∙ omega (arith, fewer)
 
 pub places-log : (k n : ℕ) → k < 20 → 10 ^ k ≤ max n 1 → max n 1 < 10 * 10 ^ k → k + 1 ≡ places_within 19 n
 places-log k n most least below = sym (places_within-log 19 k n (omega arith) least (omega arith))

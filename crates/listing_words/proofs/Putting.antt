@@ -1,4 +1,4 @@
--- One piece after another is their whole. Every function that puts a word or a line cites `put_then`.
+-- One piece after another is their whole. Every function that puts a word or a line cites `puts_then`.
 use mathlib.Core.Path.{◌≡◌, refl, sym, ap, ◌∙◌}
 use mathlib.Core.List.{List, [], ◌∷◌, ◌++◌, append_assoc}
 use Prim.Native.Nat.{ℕ, ◌+◌, ◌-◌, ◌≤◌}

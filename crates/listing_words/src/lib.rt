@@ -47,7 +47,8 @@ impl Text<'_> {
         self.end += 1;
     }
 
-    // The last so many digits of a number, the highest first.
+    // The last so many digits of a number, the highest first. By hand: std's `write!` answers a `Result` whose `Err` no
+    // contract rules out, and these functions can't fail.
     fn put_digits(&mut self, base: u64, places: usize, n: u64)
         requires room { HasRoom self.old places }
         requires base_nonzero { (0 < base) × (base ≤ 16) }

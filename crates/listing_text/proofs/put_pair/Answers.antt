@@ -1,6 +1,6 @@
--- `put_counts`: words and numbers in turn, and the newline.
+-- `put_pair`: words and numbers in turn, and the newline.
 use Rattle.listing_words.proofs.Putting.{puts_then}
-use Rattle.listing_text.proofs.put_counts.Goals as goal
+use Rattle.listing_text.proofs.put_pair.Goals as goal
 
 pub returns-clause-puts : goal.returns-clause-puts
 returns-clause-puts c =

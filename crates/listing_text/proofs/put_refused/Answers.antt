@@ -1,7 +1,0 @@
--- `put_refused`: a word, a number, a word, a number and the newline, one after another.
-use Rattle.listing_words.proofs.Putting.{puts_then}
-use Rattle.listing_text.proofs.put_refused.Goals as goal
-
-pub returns-clause-puts : goal.returns-clause-puts
-returns-clause-puts c =
-    puts_then (puts_then (puts_then (puts_then c.put_bytes.ensures c.put_number.ensures.puts) c.put_bytes-2.ensures) c.put_number-2.ensures.puts) c.put_bytes-3.ensures
