@@ -24,7 +24,7 @@ fn put_pair(text: &mut Text<'_>, first: &[u8], m: u64, second: &[u8], n: u64)
     text.put_bytes(b"\n");
 }
 
-// A refusal's only line.
+// A refusal's only line. Two numbers and no `Refusal`: what it takes may not narrow, and `extract` answers numbers.
 pub fn put_refused(text: &mut Text<'_>, cause: u32, place: u64)
     requires { HasRoom text.old 53 }
     ensures puts { Puts text.old (refused_line cause place) text.new }
