@@ -2,6 +2,7 @@
 use mathlib.Core.Path.{◌≡◌, refl, sym, ap, ◌∙◌, subst}
 use mathlib.Core.List.{List, [], ◌∷◌}
 use Prim.Native.Nat.{ℕ, zero, suc, ◌+◌, ◌-◌, ◌≤◌, ◌<◌}
+use native.Mathlib.Omega.{arith}
 use lib.ListN.{length, get_or, set, replicate}
 use lib.Ieee.{Float}
 use Rattle.walk.specs.Walk.{Inside, Hooks, cell_edges, times, cell}
@@ -75,7 +76,7 @@ module _ (n x y l r : ℕ) (lx : x < n) (ly : y < n) (ll : l ≤ 1) (lr : r ≤ 
           own = set own e i;
           vertices = store_at n samples (edge_visit x y z e) i vertices;
           indices = set indices counts.written i;
-          counts = record { made = i + 1; written = counts.written + 1 };
+          counts = record { made = i + 1; written = counts.written + 1; ordered = omega (arith, counts.ordered) };
           held = refl;
           owned = refl;
           holds = holds-put n x y l r lx ly ll lr e i work current own h none s;
@@ -87,7 +88,7 @@ module _ (n x y l r : ℕ) (lx : x < n) (ly : y < n) (ll : l ≤ 1) (lr : r ≤ 
           own = own;
           vertices = vertices;
           indices = set indices counts.written (suc k);
-          counts = record { made = counts.made; written = counts.written + 1 };
+          counts = record { made = counts.made; written = counts.written + 1; ordered = omega (arith, counts.ordered) };
           held = refl;
           owned = refl;
           holds = s;

@@ -1,2 +1,2 @@
-pub mod PackedVisits
+pub mod EdgeVisits
 pub mod HeldVisit

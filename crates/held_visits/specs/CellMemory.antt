@@ -16,6 +16,11 @@ at_border work layer row = record { work = work; layer = layer; row = row; curre
 abbrev pub in_cell : List ℕ → ℕ → ℕ → List ℕ → CacheMemory
 in_cell work layer row current = record { work = work; layer = layer; row = row; current = current }
 
+-- what is in hand inside a cell: more vertices may have been made there than indices are written
+abbrev pub hand : CacheMemory → List Float → List ℕ → ℕ → ℕ → Lent CacheMemory (List Float)
+hand memory vertices indices made written =
+    record { memory = memory; vertices = vertices; indices = indices; made = made; written = written }
+
 -- a number is looked for in `current` alone
 unfoldable pub held_memory : ℕ → Numbering CacheMemory
 held_memory n =

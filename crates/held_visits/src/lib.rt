@@ -4,52 +4,41 @@
 #![tactic(auto)]
 
 ghost use Rattle.std.specs.Prelude.{◌≡◌, List, ℕ, ◌+◌, ◌^◌, ◌≤◌, ◌<◌};
-ghost use Rattle.packed_tables.specs.Unpacked.{unpacked, Edges};
-ghost use Rattle.lent_mesh.specs.declared.Counts.{Counts};
-ghost use Rattle.lent_mesh.specs.Stored.{in_hand, CellOf, Coordinates};
+ghost use Rattle.packed_tables.specs.Listed.{edges_left};
+ghost use Rattle.lent_mesh.specs.Stored.{in_hand};
 ghost use Rattle.index_cache.specs.Found.{CacheRoom};
-ghost use Rattle.held_visits.specs.CellMemory.{in_cell, number_edge, held_visit, held_edges};
+ghost use Rattle.held_visits.specs.CellMemory.{in_cell, hand, number_edge, held_visit, held_edges};
 
+use index_cache::Parity;
 use lent_mesh::Counts;
+use lent_mesh::cell::Cell;
+use packed_tables::edges::PackedEdges;
 
 // The edge gets the number, and its vertex is put there.
 pub fn make_edge(
-    samples: &[f32],
-    coordinates: &[f32; 129],
-    n: usize,
-    x: usize,
-    y: usize,
-    z: usize,
-    layer: usize,
-    row: usize,
+    cell: Cell,
+    parity: Parity,
     edge: usize,
     number: u32,
     current: &mut [u32; 12],
     work: &mut [u32],
     vertices: &mut [f32],
 )
-    requires cell_of { CellOf samples.now n x y z }
-    requires cache_room { CacheRoom n layer row work.old }
-    requires edge_bound { (edge < 12) × Coordinates n coordinates.now }
-    ensures { (is : List ℕ) (c : Counts) → in_hand (in_cell work.new layer row current.new) vertices.new is c
-        ≡ number_edge n samples.now x y z edge number (in_hand (in_cell work.old layer row current.old) vertices.old is c) }
+    requires cache_room { CacheRoom cell.n work.old }
+    requires edge_bound { edge < 12 }
+    ensures { (is : List ℕ) (m w : ℕ) → hand (in_cell work.new parity.layer parity.row current.new) vertices.new is m w
+        ≡ number_edge cell.entry.n cell.entry.samples.now cell.entry.x cell.entry.y cell.entry.z edge number (hand (in_cell work.old parity.layer parity.row current.old) vertices.old is m w) }
 {
-    index_cache::put(work, n, x, y, layer, row, edge, number);
+    index_cache::put(work, cell.n, cell.x, cell.y, parity, edge, number);
     current[edge] = number;
-    lent_mesh::put_vertex(samples, coordinates, n, x, y, z, edge, vertices, number);
+    cell.put_vertex(edge, vertices, number);
 }
 
 // One visit: the number that `current` has is written as an index, or the next vertex is made. `current`
 // begins as `found`, for a cell puts nothing into the layer and the row that it reads.
 fn visit(
-    samples: &[f32],
-    coordinates: &[f32; 129],
-    n: usize,
-    x: usize,
-    y: usize,
-    z: usize,
-    layer: usize,
-    row: usize,
+    cell: Cell,
+    parity: Parity,
     edge: usize,
     current: &mut [u32; 12],
     work: &mut [u32],
@@ -57,12 +46,12 @@ fn visit(
     indices: &mut [u32],
     counts: Counts,
 ) -> Counts
-    requires cell_of { CellOf samples.now n x y z }
-    requires cache_room { CacheRoom n layer row work.old }
-    requires edge_bound { (edge < 12) × Coordinates n coordinates.now }
-    requires made_bound { (counts.made + 1 < 2 ^ 32) × (counts.written + 1 < 2 ^ 32) }
-    ensures result_after { in_hand (in_cell work.new layer row current.new) vertices.new indices.new result ≡ held_visit n samples.now x y z edge (in_hand (in_cell work.old layer row current.old) vertices.old indices.old counts) }
-    ensures written_value { (result.written ≡ counts.written + 1) × (result.made ≤ counts.made + 1) }
+    requires cache_room { CacheRoom cell.n work.old }
+    requires edge_bound { edge < 12 }
+    requires written_fits { counts.written + 1 < 2 ^ 32 }
+    ensures result_after { in_hand (in_cell work.new parity.layer parity.row current.new) vertices.new indices.new result
+        ≡ held_visit cell.entry.n cell.entry.samples.now cell.entry.x cell.entry.y cell.entry.z edge (in_hand (in_cell work.old parity.layer parity.row current.old) vertices.old indices.old counts) }
+    ensures written_value { result.written ≡ counts.written + 1 }
 {
     let number = current[edge];
     if number > 0 {
@@ -72,21 +61,7 @@ fn visit(
             written: counts.written + 1,
         };
     }
-    make_edge(
-        samples,
-        coordinates,
-        n,
-        x,
-        y,
-        z,
-        layer,
-        row,
-        edge,
-        counts.made,
-        current,
-        work,
-        vertices,
-    );
+    make_edge(cell, parity, edge, counts.made, current, work, vertices);
     lent_mesh::put_index(indices, counts.written, counts.made);
     Counts {
         made: counts.made + 1,
@@ -94,54 +69,28 @@ fn visit(
     }
 }
 
-// The visits of `count` edges of a cell, packed in a word, the first in its lowest four bits.
+// The visits of some edges of a cell, in their order.
 pub fn visit_all(
-    samples: &[f32],
-    coordinates: &[f32; 129],
-    n: usize,
-    x: usize,
-    y: usize,
-    z: usize,
-    layer: usize,
-    row: usize,
-    count: u64,
-    edges: u64,
+    cell: Cell,
+    parity: Parity,
+    edges: PackedEdges,
     current: &mut [u32; 12],
     work: &mut [u32],
     vertices: &mut [f32],
     indices: &mut [u32],
     counts: Counts,
 ) -> Counts
-    requires cell_of { CellOf samples.now n x y z }
-    requires cache_room { CacheRoom n layer row work.old }
-    requires coordinates { Coordinates n coordinates.now × Edges (unpacked count edges) }
-    requires made_le_written { (counts.made ≤ counts.written) × (counts.written + count < 2 ^ 32) }
-    ensures result_after { in_hand (in_cell work.new layer row current.new) vertices.new indices.new result ≡ held_edges n samples.now x y z (unpacked count edges) (in_hand (in_cell work.old layer row current.old) vertices.old indices.old counts) }
-    ensures written_value { (result.written ≡ counts.written + count) × (result.made ≤ result.written) }
+    requires cache_room { CacheRoom cell.n work.old }
+    requires written_fits { counts.written + edges.count < 2 ^ 32 }
+    ensures result_after { in_hand (in_cell work.new parity.layer parity.row current.new) vertices.new indices.new result
+        ≡ held_edges cell.entry.n cell.entry.samples.now cell.entry.x cell.entry.y cell.entry.z (edges_left edges) (in_hand (in_cell work.old parity.layer parity.row current.old) vertices.old indices.old counts) }
+    ensures written_value { result.written ≡ counts.written + edges.count }
 {
-    let mut left = count;
-    let mut rest = edges;
     let mut reached = counts;
-    while left > 0 {
-        let edge = (rest % 16) as usize;
+    for edge in edges {
         reached = visit(
-            samples,
-            coordinates,
-            n,
-            x,
-            y,
-            z,
-            layer,
-            row,
-            edge,
-            current,
-            work,
-            vertices,
-            indices,
-            reached,
+            cell, parity, edge, current, work, vertices, indices, reached,
         );
-        rest = rest / 16;
-        left -= 1;
     }
     reached
 }

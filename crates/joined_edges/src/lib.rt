@@ -3,11 +3,12 @@
 
 #![tactic(auto)]
 
-ghost use Rattle.std.specs.Prelude.{◌≡◌, List, ℕ, ◌+◌, ◌*◌, ◌^◌, ◌≤◌, ◌<◌, length, get_or, Float};
+ghost use Rattle.std.specs.Prelude.{◌≡◌, List, ℕ, ◌+◌, ◌*◌, ◌^◌, ◌≤◌, ◌<◌, length, get_or};
 ghost use Rattle.marching_cubes_tables.specs.Rule.{row_edges};
-ghost use Rattle.walk.specs.Walk.{Visit, Inside, signs};
+ghost use Rattle.walk.specs.Edges.{edge_of};
+ghost use Rattle.walk.specs.Walk.{Inside, signs};
 ghost use Rattle.walk.specs.Ownership.{new_edges};
-ghost use Rattle.walk_models.specs.Owned.{make_edge, name_edge, owned_cell, count_cell};
+ghost use Rattle.walk_models.specs.Owned.{edge_visit, slot, make_edge, owned_cell, count_cell};
 ghost use Rattle.packed_tables.specs.Unpacked.{unpacked};
 ghost use Rattle.packed_tables.specs.Packed.{owned_in, row_words, new_words};
 ghost use Rattle.lent_mesh.specs.Grid.{inside_of};
@@ -42,28 +43,13 @@ fn make_all(
     made
 }
 
-// The numbers of the triangles' edges are the next indices.
-fn name_all(
-    here: SlotCell,
-    list: PackedTriangles,
-    work: &[u32],
-    indices: &mut [u32],
-    mut written: u32,
-) -> u32
-    requires list_bound { 3 * list.count ≤ 15 }
-    requires n_in_bounds { (8 * (here.cell.n * here.cell.n) ≤ length work.now) × (written + 15 < 2 ^ 32) }
-    ensures by_index { let cell = here.entry.cell in (store : Visit → ℕ → List Float → List Float) (b : List Float) (made : ℕ) → hand work.now b indices.new made result
-        ≡ each (name_edge store cell.n cell.z cell.y cell.x) (unpacked (3 * list.count) list.word) (hand work.now b indices.old made written) }
-    ensures written_value { result ≡ written + 3 * list.count }
+// The number that an edge has.
+fn number_of(here: SlotCell, edge: usize, work: &[u32]) -> u32
+    requires edge_bound { edge < 12 }
+    requires n_in_bounds { 8 * (here.cell.n * here.cell.n) ≤ length work.now }
+    ensures { let cell = here.entry.cell in result ≡ get_or work.now (slot cell.n (edge_of (edge_visit cell.x cell.y cell.z edge))) 0 }
 {
-    for (first, second, third) in list {
-        let a = work[here.place(first)];
-        let b = work[here.place(second)];
-        let c = work[here.place(third)];
-        lent_mesh::put_three(indices, written, a, b, c);
-        written += 3;
-    }
-    written
+    work[here.place(edge)]
 }
 
 // A table of 256 cases for each class.
@@ -138,7 +124,7 @@ pub fn joined_cell(
         count: row >> 60,
         word: row % 0x1000_0000_0000_0000,
     };
-    let written = name_all(here, list, work, indices, counts.written);
+    let written = list.put_numbers(|edge| number_of(here, edge, work), indices, counts.written);
     Counts { made, written }
 }
 

@@ -3,3 +3,4 @@ pub mod Words
 pub mod Marks
 pub mod PackedEdges
 pub mod RegularWords
+pub mod NumbersPut

@@ -5,6 +5,9 @@ use Prim.Native.Nat.{ℕ, zero, suc, ◌-◌, ◌*◌, ◌/◌, ◌%◌, ◌<◌
 use native.Mathlib.Nat.{not-suc-le-zero, le_of_suc-le-suc}
 use native.Mathlib.Omega.{arith}
 use lib.ListN.{length, get_or}
+use Rattle.packed_tables.specs.declared.edges.PackedEdges.{PackedEdges}
+use Rattle.packed_tables.specs.declared.edges.PackedTriangles.{PackedTriangles}
+use Rattle.packed_tables.specs.Listed.{edges_left, triangles_left}
 use Rattle.packed_tables.specs.Unpacked.{unpacked, Edges, triangles, edges_of}
 
 pub unpacked-suc : (left rest : ℕ) → 0 < left → unpacked left rest ≡ rest % 16 ∷ unpacked (left - 1) (rest / 16)
@@ -81,3 +84,15 @@ edges-of-triangles (suc k) word =
 
 pub triangles-known : (k word : ℕ) → Edges (unpacked (3 * k) word) → Edges (edges_of (triangles k word))
 triangles-known k word h = subst Edges (sym (edges-of-triangles k word)) h
+
+-- ---- as the iterators go over them
+
+pub edge-known : (edges : PackedEdges) (e : ℕ) (rest : List ℕ) → edges_left edges ≡ e ∷ rest → e < 12
+unfolding Edges
+edge-known edges e rest h = (subst Edges h edges.known).0
+
+pub triangle-known : (list : PackedTriangles) (a b c : ℕ) (rest : List (ℕ × ℕ × ℕ)) → triangles_left list ≡ (a, b, c) ∷ rest → (a < 12) × (b < 12) × (c < 12)
+unfolding Edges edges_of
+triangle-known list a b c rest h =
+    let known = subst (λ (ts : List (ℕ × ℕ × ℕ)). Edges (edges_of ts)) h (triangles-known list.count list.word list.known) in
+    (known.0, known.1.0, known.1.1.0)

@@ -68,3 +68,28 @@ impl Iterator for PackedTriangles {
         Some(edges)
     }
 }
+
+impl PackedTriangles {
+    ghost use Rattle.std.specs.Prelude.{ℕ, ◌+◌, ◌^◌, ◌<◌};
+    ghost use Rattle.packed_tables.specs.Listed.{triangles_left, numbers_put};
+
+    // The numbers of the edges are the next indices from a place on, three at a time. Gives the place after them.
+    pub fn put_numbers<F: Fn(usize) -> u32>(
+        self,
+        number: F,
+        indices: &mut [u32],
+        mut place: u32,
+    ) -> u32
+        requires callable { (edge : ℕ) → edge < 12 → F.pre number edge }
+        requires place_fits { place + 3 * self.count < 2 ^ 32 }
+        ensures by_number { (f : ℕ → ℕ) → ((edge k : ℕ) → edge < 12 → F.post number edge k → k ≡ f edge)
+            → indices.new ≡ numbers_put f (triangles_left self) place indices.old }
+        ensures place_value { result ≡ place + 3 * self.count }
+    {
+        for (a, b, c) in self {
+            lent_mesh::put_three(indices, place, number(a), number(b), number(c));
+            place += 3;
+        }
+        place
+    }
+}

@@ -1,4 +1,4 @@
--- What the test of a regular cell says: an edge that the word names is there or absent as a regular cell has it. For `is_regular` and `crate_cell`.
+-- What the test of a regular cell says: an edge that the word names is there or absent as a regular cell has it. For `crate_cell`.
 use mathlib.Core.Path.{◌≡◌, refl, sym, ap, ◌∙◌, subst}
 use mathlib.Core.Logic.{⊎_elim}
 use mathlib.Core.Bool.{Bool, true, false, not, ◌&&◌, ◌||◌, true≢false, false≢true}
@@ -21,18 +21,6 @@ use Rattle.packed_tables.proofs.RegularWords.{Regular, regular-word}
 use Rattle.sign_words.proofs.OneBit.{and-bit}
 use Rattle.index_cache.specs.Found.{found_all}
 use Rattle.regular_cells.specs.RegularCell.{amiss_in, is_regular, RegularOf}
-
--- the terms that the code adds
-pub terms-test : (regular a b c d e f g : ℕ) (l : List ℕ)
-    → a ≡ bit (eqb (get_or l 0 0) 0)
-    → b ≡ bit (eqb (get_or l 1 0) 0)
-    → c ≡ bit (eqb (get_or l 2 0) 0)
-    → d ≡ bit (eqb (get_or l 3 0) 0)
-    → e ≡ bit (eqb (get_or l 4 0) 0)
-    → f ≡ bit (eqb (get_or l 8 0) 0)
-    → g ≡ bit (eqb (get_or l 9 0) 0)
-    → eqb (bit_and (1 - a + 2 * b + 4 * c + 8 * d + 16 * e + 256 * f + 512 * g) regular) 0 ≡ is_regular regular l
-terms-test regular a b c d e f g l ea eb ec ed ee ef eg = rw (ea, eb, ec, ed, ee, ef, eg)
 
 -- ---- what a passed test says
 

@@ -20,8 +20,8 @@ use Rattle.packed_tables.specs.Regular.{unfound, names, rank_of, new_count}
 use Rattle.packed_tables.proofs.RegularWords.{Regular, pairs_of, six}
 use Rattle.lent_mesh.specs.declared.Counts.{Counts}
 use Rattle.lent_mesh.specs.Stored.{in_hand}
-use Rattle.held_visits.specs.CellMemory.{in_cell, held_visit, held_edges, number_edge}
-use Rattle.regular_edges.specs.RegularEdges.{named_edge, two_edges, lower_edges, regular_edges}
+use Rattle.held_visits.specs.CellMemory.{in_cell, hand, held_visit, held_edges, number_edge}
+use Rattle.regular_edges.specs.RegularEdges.{named_edge, regular_edges}
 use Rattle.regular_cells.specs.RegularCell.{name_held, name_edges}
 use Rattle.regular_cells.proofs.MadeFirst.{new_edges-agree, fresh, make_next, made-first}
 use Rattle.regular_cells.proofs.Exchange.{by_rank, rank-exchange}
@@ -91,7 +91,7 @@ module _ (n : ℕ) (samples : List Float) (x y z : ℕ) (lx : x < n) (ly : y < n
   six-known = (omega arith, (omega arith, (omega arith, (omega arith, (omega arith, (omega arith, tt))))))
 
   six-named : (word m : ℕ) (s : State) → fold (named_edge n samples x y z word m) six s ≡ regular_edges n samples x y z word m s
-  unfolding fold two_edges lower_edges regular_edges
+  unfolding fold regular_edges
   six-named word m s = refl
 
   regular-made : (word : ℕ) (es : List ℕ) (s : State) → Regular word es → Edges es
@@ -112,25 +112,26 @@ module _ (n : ℕ) (samples : List Float) (x y z : ℕ) (lx : x < n) (ly : y < n
   -- ---- as the code takes it
 
   pub regular-visited : (word : ℕ) (es : List ℕ) (l r : ℕ) (work current : List ℕ) (vertices : List Float) (indices : List ℕ) (counts : Counts)
-      (u held : List ℕ) (vs : List Float) (is : List ℕ) (reached : Counts)
+      (u held : List ℕ) (vs : List Float) (is : List ℕ) (written : ℕ)
       → Regular word es
       → Edges es
       → ((e : ℕ) → member e es ≡ true → eqb (get_or current e 0) 0 ≡ unfound e)
       → 0 < counts.made
       → length current ≡ 12
-      → ((js : List ℕ) (c : Counts) → in_hand (in_cell u l r held) vs js c ≡ regular_edges n samples x y z word counts.made (in_hand (in_cell work l r current) vertices js c))
-      → in_hand (in_cell u l r held) vs is reached
-      ≡ name_edges es (in_hand (in_cell u l r held) vs indices (record { made = counts.made + new_count word; written = counts.written }))
-      → in_hand (in_cell u l r held) vs is reached ≡ held_edges n samples x y z es (in_hand (in_cell work l r current) vertices indices counts)
+      → ((js : List ℕ) (m w : ℕ) → hand (in_cell u l r held) vs js m w ≡ regular_edges n samples x y z word counts.made (hand (in_cell work l r current) vertices js m w))
+      → hand (in_cell u l r held) vs is (counts.made + new_count word) written
+      ≡ name_edges es (hand (in_cell u l r held) vs indices (counts.made + new_count word) counts.written)
+      → hand (in_cell u l r held) vs is (counts.made + new_count word) written
+      ≡ held_edges n samples x y z es (in_hand (in_cell work l r current) vertices indices counts)
   unfolding held_edges name_edges
-  regular-visited word es l r work current vertices indices counts u held vs is reached right known absent some twelve made named =
+  regular-visited word es l r work current vertices indices counts u held vs is written right known absent some twelve made named =
       let s : State = in_hand (in_cell work l r current) vertices indices counts in
-      let t : State = in_hand (in_cell u l r held) vs indices (record { made = counts.made + new_count word; written = counts.written }) in
+      let t : State = hand (in_cell u l r held) vs indices (counts.made + new_count word) counts.written in
       let agree : new_edges (fresh s) es ≡ new_edges unfound es = new_edges-agree es (fresh s) unfound absent in
       let first : fold (make_next n samples x y z) (new_edges (fresh s) es) s ≡ t =
       ap (λ (ds : List ℕ). fold (make_next n samples x y z) ds s) agree
       ∙ regular-made word es s right known
-      ∙ sym (ap (counted (new_count word)) (made indices counts)) in
+      ∙ sym (ap (counted (new_count word)) (made indices counts.made counts.written)) in
       named
       ∙ times-fold name_held 0 es t
       ∙ ap (fold name_held es) (sym first)

@@ -1,4 +1,4 @@
--- The steps by which the new edges of a regular cell are made: an edge that the word names or does not, and the six of them, two by two.
+-- The steps by which the new edges of a regular cell are made: an edge that the word names or does not, and the six of them.
 use mathlib.Core.Path.{◌≡◌, ap, ◌∙◌}
 use mathlib.Core.List.{List}
 use Prim.Native.Nat.{ℕ, ◌+◌}
@@ -9,7 +9,7 @@ use Rattle.walk_models.specs.Lent.{Lent}
 use Rattle.walk_models.specs.CacheMemory.{CacheMemory}
 use Rattle.packed_tables.specs.Regular.{rank_of}
 use Rattle.held_visits.specs.CellMemory.{number_edge}
-use Rattle.regular_edges.specs.RegularEdges.{named_edge, two_edges, lower_edges, regular_edges}
+use Rattle.regular_edges.specs.RegularEdges.{named_edge, regular_edges}
 
 abbrev State : Type 0
 State = Lent CacheMemory (List Float)
@@ -27,20 +27,9 @@ module _ (n : ℕ) (samples : List Float) (x y z regular made : ℕ) where
   abbrev step : ℕ → State → State
   step = named_edge n samples x y z regular made
 
-  abbrev two : ℕ → ℕ → State → State
-  two = two_edges n samples x y z regular made
-
-  abbrev lower : State → State
-  lower = lower_edges n samples x y z regular made
-
-  pub two-named : (i j : ℕ) (s t u : State) → t ≡ step i s → u ≡ step j t → u ≡ two i j s
-  unfolding two_edges
-  two-named i j s t u et eu = eu ∙ ap (step j) et
-
-  pub lower-named : (s t u : State) → t ≡ two 0 5 s → u ≡ two 6 7 t → u ≡ lower s
-  unfolding lower_edges
-  lower-named s t u et eu = eu ∙ ap (two 6 7) et
-
-  pub six-named : (s t u : State) → t ≡ lower s → u ≡ two 10 11 t → u ≡ regular_edges n samples x y z regular made s
+  -- one after the other
+  pub six-named : (s a b c d e f : State) → a ≡ step 0 s → b ≡ step 5 a → c ≡ step 6 b → d ≡ step 7 c → e ≡ step 10 d → f ≡ step 11 e
+      → f ≡ regular_edges n samples x y z regular made s
   unfolding regular_edges
-  six-named s t u et eu = eu ∙ ap (two 10 11) et
+  six-named s a b c d e f ea eb ec ed ee ef =
+      ef ∙ ap (step 11) (ee ∙ ap (step 10) (ed ∙ ap (step 7) (ec ∙ ap (step 6) (eb ∙ ap (step 5) ea))))

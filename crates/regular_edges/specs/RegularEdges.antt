@@ -12,12 +12,8 @@ module _ (n : ℕ) (samples : List Float) (x y z : ℕ) where
   unfoldable pub named_edge : ℕ → ℕ → ℕ → Lent CacheMemory (List Float) → Lent CacheMemory (List Float)
   named_edge regular made e s = cond (names regular e) (number_edge n samples x y z e (made + rank_of regular e) s) s
 
-  unfoldable pub two_edges : ℕ → ℕ → ℕ → ℕ → Lent CacheMemory (List Float) → Lent CacheMemory (List Float)
-  two_edges regular made a b s = named_edge regular made b (named_edge regular made a s)
-
-  -- the edges that a regular cell can make: those before edge 10, and all six
-  unfoldable pub lower_edges : ℕ → ℕ → Lent CacheMemory (List Float) → Lent CacheMemory (List Float)
-  lower_edges regular made s = two_edges regular made 6 7 (two_edges regular made 0 5 s)
-
+  -- the edges that a regular cell can make, in their order
   unfoldable pub regular_edges : ℕ → ℕ → Lent CacheMemory (List Float) → Lent CacheMemory (List Float)
-  regular_edges regular made s = two_edges regular made 10 11 (lower_edges regular made s)
+  regular_edges regular made s =
+      let step : ℕ → Lent CacheMemory (List Float) → Lent CacheMemory (List Float) = named_edge regular made in
+      step 11 (step 10 (step 7 (step 6 (step 5 (step 0 s)))))

@@ -3,8 +3,7 @@ use mathlib.Core.Path.{refl, sym, ◌∙◌}
 use native.Mathlib.Omega.{arith}
 use lib.Dec.{ltb}
 use lib.ListN.{get_or}
-use borrow.Author.Tests.{ltb-true}
-use Rattle.walk.proofs.Bools.{and_left, and_right}
+use Rattle.walk.proofs.Bools.{and_right}
 use Rattle.packed_tables.proofs.Words.{in_threes}
 use Rattle.lent_mesh.specs.Grid.{inside_of}
 use Rattle.crate_cells.proofs.RowEdges.{case-lt, row-edges, row-edges-all, row_count}
@@ -13,96 +12,70 @@ use Rattle.crate_cells.proofs.HeldCell.{held-cell}
 use Rattle.crate_cells.proofs.crate_cell.Goals as goal
 
 pub offset_bounds-rows-case : goal.offset_bounds-rows-case
-offset_bounds-rows-case c = omega (arith, case-lt _ _ _ _ c.args.case c.requires.rows_value.3)
+offset_bounds-rows-case c = omega (arith, case-lt _ _ _ _ c.args.case c.requires.rows_value.2)
 
 pub bounds-rows-case : goal.bounds-rows-case
-bounds-rows-case c = case-lt _ _ _ _ c.args.case c.requires.rows_value.3
+bounds-rows-case c = case-lt _ _ _ _ c.args.case c.requires.rows_value.2
 
 pub offset_bounds-regulars-case : goal.offset_bounds-regulars-case
-offset_bounds-regulars-case c = omega (arith, case-lt _ _ _ _ c.args.case c.requires.rows_value.3)
+offset_bounds-regulars-case c = omega (arith, case-lt _ _ _ _ c.args.case c.requires.rows_value.2)
 
 pub bounds-regulars-case : goal.bounds-regulars-case
-bounds-regulars-case c = case-lt _ _ _ _ c.args.case c.requires.rows_value.3
+bounds-regulars-case c = case-lt _ _ _ _ c.args.case c.requires.rows_value.2
 
 -- a regular cell
-pub regular_visits-requires : goal.regular_visits-requires
-regular_visits-requires c =
+pub regular_visits-requires-clause-regular_of : goal.regular_visits-requires-clause-regular_of
+regular_visits-requires-clause-regular_of c =
     let given = c.requires.rows_value in
-    let made = ltb 0 c.args.counts.made in
-    let passed = c.is_regular.result in
-    let regular = sym c.is_regular.ensures ∙ and_right made passed c.if-counts-is_regular.true in
-    record {
-      cell_of = c.requires.cell_of;
-      cache_room = c.requires.cache_room;
-      coordinates = (
-        given.2,
-        regular-of c.args.case _ _ c.args.n c.args.x c.args.y c.args.layer c.args.row c.args.work.now _
-            c.args.rows.now c.args.regulars.now (case-lt _ _ _ _ c.args.case given.3) given.0 given.1 refl refl
-            c.found-current.ensures regular,
-      );
-      made_nonzero = (ltb-true 0 c.args.counts.made (and_left made passed c.if-counts-is_regular.true), omega arith, omega arith);
-    }
+    let cell = c.args.cell in
+    let regular = sym c.is_regular.ensures ∙ and_right (ltb 0 c.args.counts.made) c.is_regular.result c.if-counts-is_regular.true in
+    regular-of c.args.case _ _ cell.n cell.x cell.y c.args.parity.layer c.args.parity.row c.args.work.now _
+    c.args.rows.now c.args.regulars.now (case-lt _ _ _ _ c.args.case given.2) given.0 given.1 refl refl
+    c.found-current.ensures regular
+
+pub returns-then-counts-is_regular-clause-result_after : goal.returns-then-counts-is_regular-clause-result_after
+returns-then-counts-is_regular-clause-result_after c =
+    let args = c.args in
+    let cell = args.cell in
+    let parity = args.parity in
+    let given = c.requires.rows_value in
+    let rows = args.rows.now in
+    let inside = inside_of cell.n cell.samples.now in
+    held-cell cell.n cell.x cell.y parity.layer parity.row (omega (arith, cell.of_grid.in-x)) (omega (arith, cell.of_grid.in-y)) parity.layer_le parity.row_le
+    cell.samples.now cell.z inside (in_threes (get_or rows args.case 0)) args.work.now c.found-current.result args.vertices.now args.indices.now args.counts _ _ _ _ c.regular_visits.result
+    (row-edges inside cell.x cell.y cell.z args.case given.2 rows given.0)
+    (row-edges-all inside cell.x cell.y cell.z args.case given.2 rows given.0) c.found-current.ensures c.regular_visits.ensures.result_after
+
+pub returns-then-counts-is_regular-clause-written_bound : goal.returns-then-counts-is_regular-clause-written_bound
+returns-then-counts-is_regular-clause-written_bound c =
+    let given = c.requires.rows_value in
+    omega (arith, c.regular_visits.ensures.written_value, row_count _ _ _ _ c.args.case given.2 c.args.rows.now given.0)
 
 -- any other
-pub overflow_mul-word : goal.overflow_mul-word
-overflow_mul-word c = omega (arith, row_count _ _ _ _ c.args.case c.requires.rows_value.3 c.args.rows.now c.requires.rows_value.0)
-
-pub visit_all-requires : goal.visit_all-requires
-visit_all-requires c =
+pub invariant_of-edges : goal.invariant_of-edges
+invariant_of-edges c =
     let given = c.requires.rows_value in
-    record {
-      cell_of = c.requires.cell_of;
-      cache_room = c.requires.cache_room;
-      coordinates = (given.2, row-edges-all _ _ _ _ c.args.case given.3 c.args.rows.now given.0);
-      made_le_written = (omega arith, omega (arith, row_count _ _ _ _ c.args.case given.3 c.args.rows.now given.0));
-    }
+    record { known = row-edges-all _ _ _ _ c.args.case given.2 c.args.rows.now given.0 }
 
-pub shape_of-work-then-counts-is_regular : goal.shape_of-work-then-counts-is_regular
-shape_of-work-then-counts-is_regular c = c.work-1.given
+pub visit_all-requires-clause-written_fits : goal.visit_all-requires-clause-written_fits
+visit_all-requires-clause-written_fits c =
+    let given = c.requires.rows_value in
+    omega (arith, row_count _ _ _ _ c.args.case given.2 c.args.rows.now given.0, c.requires.written_fits)
 
-pub shape_of-vertices-then-counts-is_regular : goal.shape_of-vertices-then-counts-is_regular
-shape_of-vertices-then-counts-is_regular c = c.vertices-1.given
-
-pub shape_of-indices-then-counts-is_regular : goal.shape_of-indices-then-counts-is_regular
-shape_of-indices-then-counts-is_regular c = c.indices-1.given
-
-pub shape_of-work : goal.shape_of-work
-shape_of-work c = c.work-2-1.given
-
-pub shape_of-vertices : goal.shape_of-vertices
-shape_of-vertices c = c.vertices-2-1.given
-
-pub shape_of-indices : goal.shape_of-indices
-shape_of-indices c = c.indices-2-1.given
-
-pub returns-then-counts-is_regular : goal.returns-then-counts-is_regular
-returns-then-counts-is_regular c =
+pub returns-clause-result_after : goal.returns-clause-result_after
+returns-clause-result_after c =
     let args = c.args in
+    let cell = args.cell in
+    let parity = args.parity in
     let given = c.requires.rows_value in
-    let room = c.requires.cache_room in
     let rows = args.rows.now in
-    let inside = inside_of args.n args.samples.now in
-    let grown = c.regular_visits.ensures.written_value in
-    record {
-      result_after = held-cell args.n args.x args.y args.layer args.row (omega (arith, c.requires.cell_of.in-x)) (omega (arith, c.requires.cell_of.in-y)) room.layer-le room.row-le
-          args.samples.now args.z inside (in_threes (get_or rows args.case 0)) args.work.now c.found-current.result args.vertices.now args.indices.now args.counts _ _ _ _ _
-          (row-edges inside args.x args.y args.z args.case given.3 rows given.0)
-          (row-edges-all inside args.x args.y args.z args.case given.3 rows given.0) c.found-current.ensures c.regular_visits.ensures.result_after;
-      written_bound = (omega (arith, grown.0, row_count inside args.x args.y args.z args.case given.3 rows given.0), grown.1);
-    }
+    let inside = inside_of cell.n cell.samples.now in
+    held-cell cell.n cell.x cell.y parity.layer parity.row (omega (arith, cell.of_grid.in-x)) (omega (arith, cell.of_grid.in-y)) parity.layer_le parity.row_le
+    cell.samples.now cell.z inside (in_threes (get_or rows args.case 0)) args.work.now c.found-current.result args.vertices.now args.indices.now args.counts _ _ _ _ c.visit_all.result
+    (row-edges inside cell.x cell.y cell.z args.case given.2 rows given.0)
+    (row-edges-all inside cell.x cell.y cell.z args.case given.2 rows given.0) c.found-current.ensures c.visit_all.ensures.result_after
 
-pub returns : goal.returns
-returns c =
-    let args = c.args in
+pub returns-clause-written_bound : goal.returns-clause-written_bound
+returns-clause-written_bound c =
     let given = c.requires.rows_value in
-    let room = c.requires.cache_room in
-    let rows = args.rows.now in
-    let inside = inside_of args.n args.samples.now in
-    let grown = c.visit_all.ensures.written_value in
-    record {
-      result_after = held-cell args.n args.x args.y args.layer args.row (omega (arith, c.requires.cell_of.in-x)) (omega (arith, c.requires.cell_of.in-y)) room.layer-le room.row-le
-          args.samples.now args.z inside (in_threes (get_or rows args.case 0)) args.work.now c.found-current.result args.vertices.now args.indices.now args.counts _ _ _ _ _
-          (row-edges inside args.x args.y args.z args.case given.3 rows given.0)
-          (row-edges-all inside args.x args.y args.z args.case given.3 rows given.0) c.found-current.ensures c.visit_all.ensures.result_after;
-      written_bound = (omega (arith, grown.0, row_count inside args.x args.y args.z args.case given.3 rows given.0), grown.1);
-    }
+    omega (arith, c.visit_all.ensures.written_value, row_count _ _ _ _ c.args.case given.2 c.args.rows.now given.0)

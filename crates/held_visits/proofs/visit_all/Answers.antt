@@ -1,69 +1,52 @@
 -- `visit_all`: what is left to visit leads to the same end.
-use mathlib.Core.Path.{refl, ◌∙◌}
+use mathlib.Core.Path.{ap, ◌∙◌}
+use mathlib.Core.List.{List}
+use Prim.Native.Nat.{ℕ}
 use native.Mathlib.Omega.{arith}
+use lib.ListN.{length}
+use Rattle.packed_tables.specs.Listed.{edges_left}
+use Rattle.packed_tables.proofs.PackedEdges.{edge-known, unpacked-length}
 use Rattle.lent_mesh.specs.Stored.{in_hand}
-use Rattle.index_cache.proofs.Places.{room-kept}
 use Rattle.held_visits.specs.CellMemory.{in_cell}
-use Rattle.packed_tables.proofs.PackedEdges.{edges-first, edges-rest}
-use Rattle.held_visits.proofs.PackedVisits.{turn-taken, all-taken}
+use Rattle.held_visits.proofs.EdgeVisits.{turn-taken, all-taken}
 use Rattle.held_visits.proofs.visit_all.Goals as goal
 
-pub loop-left-init : goal.loop-left-init
-loop-left-init c = (c.requires.made_le_written.0, refl, refl, refl, refl, c.requires.coordinates.1, refl)
+pub visit-reached-requires-clause-edge_bound : goal.visit-reached-requires-clause-edge_bound
+visit-reached-requires-clause-edge_bound c = edge-known c.loop-edge.edge-iterator c.in-Some.edge _ c.in-Some.ensures.steps
 
-pub visit-reached-requires : goal.visit-reached-requires
-visit-reached-requires c =
-    let taken = c.loop-left-test.true in
-    let inv = c.loop-left.invariant in
-    let fits = c.requires.made_le_written.1 in
-    record {
-      cell_of = c.requires.cell_of;
-      cache_room = room-kept _ _ inv.2 c.requires.cache_room;
-      edge_bound = (edges-first c.loop-left.left c.loop-left.rest taken inv.5, c.requires.coordinates.0);
-      made_bound = (omega (arith, taken, inv.0, inv.1, fits), omega (arith, taken, inv.1, fits));
-    }
+pub visit-reached-requires-clause-written_fits : goal.visit-reached-requires-clause-written_fits
+visit-reached-requires-clause-written_fits c =
+    let one = ap (λ (es : List ℕ). length es) c.in-Some.ensures.steps in
+    omega (arith, one, c.loop-edge.invariant.2, unpacked-length c.args.edges.count c.args.edges.word, c.requires.written_fits)
 
-pub overflow_sub-left : goal.overflow_sub-left
-overflow_sub-left c = omega (arith, c.loop-left-test.true)
-
-pub loop-left-smaller : goal.loop-left-smaller
-loop-left-smaller c = omega (arith, c.loop-left-test.true)
-
-pub loop-left-preserved : goal.loop-left-preserved
-loop-left-preserved c =
-    let taken = c.loop-left-test.true in
-    let inv = c.loop-left.invariant in
+pub loop-edge-preserved : goal.loop-edge-preserved
+loop-edge-preserved c =
+    let inv = c.loop-edge.invariant in
     let args = c.args in
-    let counted = c.visit-reached.ensures.written_value in (
-      omega (arith, counted.0, counted.1, inv.0),
-      omega (arith, counted.0, taken, inv.1),
-      c.work-1.given ∙ inv.2,
-      c.vertices-1.given ∙ inv.3,
-      c.indices-1.given ∙ inv.4,
-      edges-rest c.loop-left.left c.loop-left.rest taken inv.5,
-      turn-taken args.n args.samples.now args.x args.y args.z c.loop-left.left c.loop-left.rest
-          (in_hand (in_cell c.loop-left.work args.layer args.row c.loop-left.current) c.loop-left.vertices c.loop-left.indices c.loop-left.reached)
-          _ args.count args.edges
-          (in_hand (in_cell args.work.now args.layer args.row args.current.now) args.vertices.now args.indices.now args.counts) taken
-          c.visit-reached.ensures.result_after inv.6,
+    let cell = args.cell in
+    let one = ap (λ (es : List ℕ). length es) c.in-Some.ensures.steps in (
+      tt,
+      tt,
+      omega (arith, one, inv.2, c.visit-reached.ensures.written_value),
+      c.visit-reached.auto.work ∙ inv.3,
+      c.visit-reached.auto.vertices ∙ inv.4,
+      c.visit-reached.auto.indices ∙ inv.5,
+      turn-taken cell.n cell.samples.now cell.x cell.y cell.z c.in-Some.edge (edges_left c.loop-edge.edge-iterator) _ _
+          (in_hand (in_cell c.loop-edge.work args.parity.layer args.parity.row c.loop-edge.current) c.loop-edge.vertices c.loop-edge.indices c.loop-edge.reached)
+          (in_hand (in_cell c.visit-reached.new.work args.parity.layer args.parity.row c.visit-reached.new.current) c.visit-reached.new.vertices c.visit-reached.new.indices c.visit-reached.result)
+          (in_hand (in_cell args.work.now args.parity.layer args.parity.row args.current.now) args.vertices.now args.indices.now args.counts)
+          c.in-Some.ensures.steps c.visit-reached.ensures.result_after inv.6,
     )
 
-pub shape_of-work : goal.shape_of-work
-shape_of-work c = c.loop-left.invariant.2
-
-pub shape_of-vertices : goal.shape_of-vertices
-shape_of-vertices c = c.loop-left.invariant.3
-
-pub shape_of-indices : goal.shape_of-indices
-shape_of-indices c = c.loop-left.invariant.4
-
-pub returns : goal.returns
-returns c =
+pub returns-clause-result_after : goal.returns-clause-result_after
+returns-clause-result_after c =
     let args = c.args in
-    let none = c.loop-left-test.false in
-    record {
-      result_after = all-taken args.n args.samples.now args.x args.y args.z c.loop-left.left c.loop-left.rest
-          (in_hand (in_cell c.loop-left.work args.layer args.row c.loop-left.current) c.loop-left.vertices c.loop-left.indices c.loop-left.reached) args.count args.edges
-          (in_hand (in_cell args.work.now args.layer args.row args.current.now) args.vertices.now args.indices.now args.counts) none c.loop-left.invariant.6;
-      written_value = (omega (arith, none, c.loop-left.invariant.1), c.loop-left.invariant.0);
-    }
+    let cell = args.cell in
+    all-taken cell.n cell.samples.now cell.x cell.y cell.z (edges_left c.loop-edge.edge-iterator) _ _
+    (in_hand (in_cell args.work.now args.parity.layer args.parity.row args.current.now) args.vertices.now args.indices.now args.counts)
+    c.in-None.ensures.steps.0 c.loop-edge.invariant.6
+
+pub returns-clause-written_value : goal.returns-clause-written_value
+returns-clause-written_value c =
+    let none = ap (λ (es : List ℕ). length es) c.in-None.ensures.steps.0 in
+    omega (arith, none, c.loop-edge.invariant.2, unpacked-length c.args.edges.count c.args.edges.word)

@@ -1,9 +1,15 @@
 -- `joined_cell`: the two words hold the new edges and the row, so the two passes are the cell.
 use mathlib.Core.Path.{refl}
+use Prim.Native.Nat.{◌/◌, ◌%◌, ◌^◌}
 use native.Mathlib.Omega.{arith}
+use lib.ListN.{get_or}
+use Rattle.std.proofs.Common.{rules}
+use Rattle.walk.specs.Edges.{edge_of}
+use Rattle.walk_models.specs.Owned.{edge_visit, slot}
 use Rattle.lent_mesh.specs.Grid.{inside_of}
 use Rattle.lent_mesh.specs.Stored.{store_at, in_hand}
 use Rattle.joined_slots.proofs.TwelveSlots.{slots-from}
+use Rattle.joined_edges.proofs.PackedSteps.{row-of-numbers}
 use Rattle.joined_edges.proofs.CellWords.{cell-words, case-lt, class-lt, counts-grown, cell-passes}
 use Rattle.joined_edges.proofs.joined_cell.Goals as goal
 
@@ -28,16 +34,17 @@ invariant_of-list c =
     let given = c.requires in
     record { known = (cell-words _ _ _ _ _ _ _ _ given.rows_value.0 given.rows_value.1 given.case_value.0 given.case_value.1).row-known }
 
-pub name_all-written-requires-clause-list_bound : goal.name_all-written-requires-clause-list_bound
-name_all-written-requires-clause-list_bound c =
+pub put_numbers-written-requires-clause-place_fits : goal.put_numbers-written-requires-clause-place_fits
+put_numbers-written-requires-clause-place_fits c =
     let given = c.requires in
-    (cell-words _ _ _ _ _ _ _ _ given.rows_value.0 given.rows_value.1 given.case_value.0 given.case_value.1).row-most
+    let w = cell-words _ _ _ _ _ _ _ _ given.rows_value.0 given.rows_value.1 given.case_value.0 given.case_value.1 in
+    omega (arith, w.row-most, given.n_in_bounds.1)
 
 pub invariant_of-result : goal.invariant_of-result
 invariant_of-result c =
     let given = c.requires in
     let w = cell-words _ _ _ _ _ _ _ _ given.rows_value.0 given.rows_value.1 given.case_value.0 given.case_value.1 in
-    record { ordered = (counts-grown _ _ _ _ _ _ _ _ w c.args.counts.ordered c.make_new-made.ensures.made_value c.name_all-written.ensures.written_value).0 }
+    record { ordered = (counts-grown _ _ _ _ _ _ _ _ w c.args.counts.ordered c.make_new-made.ensures.made_value c.put_numbers-written.ensures.place_value).0 }
 
 pub returns-clause-result_after : goal.returns-clause-result_after
 returns-clause-result_after c =
@@ -45,14 +52,18 @@ returns-clause-result_after c =
     let cell = args.cell in
     let given = c.requires in
     let store = store_at cell.n cell.samples.now in
+    let work = c.make_new-made.new.work in
     cell-passes (inside_of cell.n cell.samples.now) cell.x cell.y cell.z args.class args.case _ _ given.case_value.0 given.case_value.1
     (cell-words _ _ _ _ _ _ _ _ given.rows_value.0 given.rows_value.1 given.case_value.0 given.case_value.1)
     store cell.n (in_hand args.work.now args.vertices.now args.indices.now args.counts) _ _
     (c.make_new-made.ensures.by_index args.indices.now args.counts.written)
-    (c.name_all-written.ensures.by_index store _ c.make_new-made.result)
+    (row-of-numbers store cell.n cell.x cell.y cell.z (get_or args.rows.now args.case 0 / 2 ^ 60) (get_or args.rows.now args.case 0 % 2 ^ 60)
+    work args.indices.now _ _ c.make_new-made.result args.counts.written c.put_numbers-written.result
+    (c.put_numbers-written.ensures.by_number (λ e. get_or work (slot cell.n (edge_of (edge_visit cell.x cell.y cell.z e))) 0) (λ e k below told. search rules))
+    c.put_numbers-written.ensures.place_value)
 
 pub returns-clause-written_bound : goal.returns-clause-written_bound
 returns-clause-written_bound c =
     let given = c.requires in
     let w = cell-words _ _ _ _ _ _ _ _ given.rows_value.0 given.rows_value.1 given.case_value.0 given.case_value.1 in
-    omega (arith, w.row-most, c.name_all-written.ensures.written_value)
+    omega (arith, w.row-most, c.put_numbers-written.ensures.place_value)
