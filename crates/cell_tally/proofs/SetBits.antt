@@ -13,8 +13,8 @@ use Rattle.sign_words.specs.Words.{word_of}
 use Rattle.sign_words.proofs.Words.{word_of-lt, word_of-of-bits}
 use Rattle.sign_words.proofs.OneBit.{and-bit, xor-bit}
 use Rattle.corner_signs.specs.Signs.{differ}
-use Rattle.cell_tally.specs.Tally.{total, is_set, in_mask, set_in}
-use Rattle.cell_tally.proofs.Sums.{total-same, in_mask-same}
+use Rattle.cell_tally.specs.Tally.{total, is_set, set_in}
+use Rattle.cell_tally.proofs.Sums.{total-same}
 
 -- ---- one bit
 
@@ -74,7 +74,3 @@ ones-in word mask a b =
     masked true false = refl
     masked false true = refl
     masked false false = refl
-
--- a word whose bits are known
-pub set_in-of : (word mask : ℕ) (f : ℕ → Bool) → ((i : ℕ) → is_set word i ≡ f i) → set_in word mask ≡ in_mask mask (λ i. bit (f i))
-set_in-of word mask f h = in_mask-same mask _ _ (λ i. ap bit (h i))

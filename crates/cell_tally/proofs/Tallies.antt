@@ -6,7 +6,7 @@ use lib.ListN.{length}
 use Rattle.walk.specs.Walk.{bit}
 use Rattle.cell_tally.specs.declared.Corners.{Corners}
 use Rattle.corner_signs.specs.Signs.{row_of, inside_at, faces_at, whole_at, opposite_at, crossing_at}
-use Rattle.cell_tally.specs.Tally.{is_set, in_mask, set_in, of_signs, triangles_in, new_in}
+use Rattle.cell_tally.specs.Tally.{corner, is_set, in_mask, set_in, of_signs, triangles_in, new_in}
 use Rattle.cell_tally.proofs.Sums.{in_mask-same, in_mask-add, in_mask-times, in_mask-le}
 use Rattle.corner_signs.proofs.Identities.{triangles-hold, new-hold, row-most}
 
@@ -28,13 +28,13 @@ module _ (c : Corners) (mask : ℕ) where
   triangles-balance =
       ap (λ (x : ℕ). in_mask mask (of_signs inside_at c) + x) (in_mask-times mask 4 (of_signs whole_at c))
       ∙ in_mask-add mask (of_signs inside_at c) (λ i. 4 * of_signs whole_at c i)
-      ∙ in_mask-same mask _ _ (λ i. triangles-hold (is_set c.c0 i) (is_set c.c1 i) (is_set c.c2 i) (is_set c.c3 i) (is_set c.c4 i) (is_set c.c5 i) (is_set c.c6 i) (is_set c.c7 i))
+      ∙ in_mask-same mask _ _ (λ i. triangles-hold (is_set (corner c 0) i) (is_set (corner c 1) i) (is_set (corner c 2) i) (is_set (corner c 3) i) (is_set (corner c 4) i) (is_set (corner c 5) i) (is_set (corner c 6) i) (is_set (corner c 7) i))
       ∙ sym (ap₂ (λ (x y : ℕ). triangles_in c mask + x + y) (in_mask-times mask 2 (of_signs faces_at c)) (in_mask-times mask 4 (of_signs opposite_at c))
       ∙ ap (λ (x : ℕ). x + in_mask mask (λ i. 4 * of_signs opposite_at c i)) (in_mask-add mask (λ i. length (of_signs row_of c i) / 3) (λ i. 2 * of_signs faces_at c i))
       ∙ in_mask-add mask (λ i. length (of_signs row_of c i) / 3 + 2 * of_signs faces_at c i) (λ i. 4 * of_signs opposite_at c i))
 
   pub triangles-most : triangles_in c mask ≤ 160
-  triangles-most = in_mask-le mask (λ i. length (of_signs row_of c i) / 3) 5 (λ i. row-most (is_set c.c0 i) (is_set c.c1 i) (is_set c.c2 i) (is_set c.c3 i) (is_set c.c4 i) (is_set c.c5 i) (is_set c.c6 i) (is_set c.c7 i))
+  triangles-most = in_mask-le mask (λ i. length (of_signs row_of c i) / 3) 5 (λ i. row-most (is_set (corner c 0) i) (is_set (corner c 1) i) (is_set (corner c 2) i) (is_set (corner c 3) i) (is_set (corner c 4) i) (is_set (corner c 5) i) (is_set (corner c 6) i) (is_set (corner c 7) i))
 
   pub new-comes : (first top : ℕ) → in_mask mask (λ i. of_signs (crossing_at (is_set first i) (is_set top i)) c i) ≡ new_in c mask first top
-  new-comes first top = in_mask-same mask _ _ (λ i. sym (new-hold (is_set first i) (is_set top i) (is_set c.c0 i) (is_set c.c1 i) (is_set c.c2 i) (is_set c.c3 i) (is_set c.c4 i) (is_set c.c5 i) (is_set c.c6 i) (is_set c.c7 i)))
+  new-comes first top = in_mask-same mask _ _ (λ i. sym (new-hold (is_set first i) (is_set top i) (is_set (corner c 0) i) (is_set (corner c 1) i) (is_set (corner c 2) i) (is_set (corner c 3) i) (is_set (corner c 4) i) (is_set (corner c 5) i) (is_set (corner c 6) i) (is_set (corner c 7) i)))

@@ -1,6 +1,6 @@
 -- What 32 cells have together, from a word of signs for each of their eight corners: bit i is the sign of the corner of cell i. A private model, which the
 -- contracts of the count cite; nobody need believe it.
-use Rattle.std.specs.Prelude.{Bool, false, cond, ℕ, zero, suc, ◌+◌, ◌/◌, eqb, length}
+use Rattle.std.specs.Prelude.{Bool, false, cond, ℕ, zero, suc, ◌+◌, ◌/◌, eqb, length, get_or}
 use Rattle.marching_cubes_tables.specs.Rule.{bit_at}
 use Rattle.walk.specs.Walk.{bit}
 use Rattle.walk.specs.Ownership.{owned, new_edges}
@@ -23,10 +23,14 @@ in_mask mask f = total (λ i. cond (is_set mask i) (f i) 0) 32
 abbrev pub set_in : ℕ → ℕ → ℕ
 set_in word mask = in_mask mask (λ i. bit (is_set word i))
 
+-- the word of corner k
+abbrev pub corner : Corners → ℕ → ℕ
+corner c k = get_or c.signs k 0
+
 -- the signs of the eight corners of cell i, and something of them
 abbrev pub of_signs : {A : Type 0} → (Bool → Bool → Bool → Bool → Bool → Bool → Bool → Bool → A) → Corners → ℕ → A
 of_signs f c i =
-    f (is_set c.c0 i) (is_set c.c1 i) (is_set c.c2 i) (is_set c.c3 i) (is_set c.c4 i) (is_set c.c5 i) (is_set c.c6 i) (is_set c.c7 i)
+    f (is_set (corner c 0) i) (is_set (corner c 1) i) (is_set (corner c 2) i) (is_set (corner c 3) i) (is_set (corner c 4) i) (is_set (corner c 5) i) (is_set (corner c 6) i) (is_set (corner c 7) i)
 
 -- the triangles of the cells
 abbrev pub triangles_in : Corners → ℕ → ℕ

@@ -28,15 +28,15 @@ row_word n r x = 2 * (n * n) + 2 * x + r
 
 -- the edges that a cell can make: vertex 0 reads as absent, so in the cell that makes it those after the first visit
 abbrev pub named_set : ℕ → ℕ → ℕ
-named_set word written = cond (eqb written 0) (word / 65536 % 4096) (word % 4096)
+named_set word written = cond (eqb written 0) (word / 0x1_0000 % 4096) (word % 4096)
 
 -- and what the first visit of all makes
 abbrev pub first_made : ℕ → ℕ → ℕ
-first_made word written = cond (eqb written 0) (word / 268435456) 0
+first_made word written = cond (eqb written 0) (word / 0x1000_0000) 0
 
 -- edges 4 to 7 of the layer read as 0 to 3; of the row 6 as 4, 11 as 8 and 10 as 9. The bits of 10 and 11 are exchanged, so that one shift does
 unfoldable pub held_set : ℕ → ℕ → ℕ
-held_set a b = bit_or (a / 16 % 16) (bit_and (b / 4) 784)
+held_set a b = bit_or (a / 16 % 16) (bit_and (b / 4) 0x310)
 
 -- named and not held
 unfoldable pub new_set : ℕ → ℕ → ℕ
@@ -62,9 +62,7 @@ module _ (n l r x y word : ℕ) (s : Held) where
 unfoldable pub clear_held : ℕ → ℕ → ℕ → List ℕ → List ℕ
 clear_held n r k w = times k (λ x t. set t (row_word n r x) 0) w
 
--- what the code may rely on: the layer and the row that are read, and room for the words
-pub record HeldRoom (n layer row : ℕ) (work : List ℕ) : Type 0 where
+-- what the code may rely on: room for the words
+pub record HeldRoom (n : ℕ) (work : List ℕ) : Type 0 where
   pub most : n ≤ 128
-  pub layer-le : layer ≤ 1
-  pub row-le : row ≤ 1
   pub room : held_room n ≤ length work

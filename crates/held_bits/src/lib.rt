@@ -10,9 +10,11 @@ ghost use Rattle.std.specs.Prelude.{◌≡◌, ◌+◌, ◌-◌, ◌*◌, ◌^�
 ghost use Rattle.held_bits.specs.Names.{name_words};
 ghost use Rattle.held_bits.specs.HeldCell.{held, held_room, layer_word, row_word, named_set, first_made, held_set, new_set, put_set, held_cell, clear_held, HeldRoom};
 
+use index_cache::Parity;
 use lent_mesh::Counts;
 
 // A table to be made once and lent.
+#[tactic(auto, unfolding(crate::specs::Names::name_words))]
 pub fn name_words() -> [u32; 256]
     ensures { result ≡ name_words }
 {
@@ -41,9 +43,9 @@ fn named_set(word: u32, written: u32) -> u32
     ensures { result ≡ named_set word written }
 {
     if written == 0 {
-        (word / 65536) % 4096
+        (word >> 16) % 0x1000
     } else {
-        word % 4096
+        word % 0x1000
     }
 }
 
@@ -51,68 +53,64 @@ fn named_set(word: u32, written: u32) -> u32
 fn first_made(word: u32, written: u32) -> u32
     ensures { result ≡ first_made word written }
 {
-    if written == 0 { word / 268435456 } else { 0 }
+    if written == 0 { word >> 28 } else { 0 }
 }
 
-// What a cell finds, from the word of its place in the layer and in the row that it reads.
+// What a cell finds, from the word of its place in the layer and in the row that it reads: edges 0 to 3
+// of the layer, 4, 8 and 9 of the row.
+#[tactic(auto, unfolding(crate::specs::HeldCell::held_set))]
 fn held_set(layer: u32, row: u32) -> u32
     ensures { result ≡ held_set layer row }
 {
-    ((layer / 16) % 16) | ((row / 4) & 784)
+    ((layer >> 4) % 16) | ((row >> 2) & 0x310)
 }
 
+#[tactic(auto, unfolding(crate::specs::HeldCell::new_set))]
 fn new_set(named: u32, held: u32) -> u32
     ensures { result ≡ new_set named held }
 {
     (named | held) ^ held
 }
 
+#[tactic(auto, unfolding(crate::specs::HeldCell::put_set))]
 fn put_set(work: &mut [u32], at: usize, new: u32)
     requires { (at < length work.old) × (at < 2 ^ 32) }
     ensures { work.new ≡ put_set work.old at new }
 {
-    work[at] = work[at] | new;
+    work[at] |= new;
 }
 
-fn set_at(work: &[u32], at: usize) -> u32
-    requires { (at < length work.now) × (at < 2 ^ 32) }
-    ensures { result ≡ get_or work.now at 0 }
-{
-    work[at]
-}
-
-// One cell that reads this layer and this row; the others it writes.
+// One cell; the layer and the row that it doesn't read it writes.
 pub fn held_cell(
     names: &[u32; 256],
     n: usize,
     x: usize,
     y: usize,
     case: usize,
-    layer: usize,
-    row: usize,
+    parity: Parity,
     work: &mut [u32],
     counts: Counts,
 ) -> Counts
     requires names_value { (names.now ≡ name_words) × (case < 256) }
-    requires held_room { HeldRoom n layer row work.old }
+    requires held_room { HeldRoom n work.old }
     requires x_lt_n { (x < n) × (y < n) }
-    requires made_le_written { (counts.made ≤ counts.written) × (counts.written + 15 < 2 ^ 32) }
-    ensures result_after { held work.new result ≡ held_cell n layer row x y (get_or name_words case 0) (held work.old counts) }
-    ensures written_bound { (result.written ≤ counts.written + 15) × (result.made ≤ result.written) }
+    requires written_fits { counts.written + 15 < 2 ^ 32 }
+    ensures result_after { held work.new result ≡ held_cell n parity.layer parity.row x y (get_or name_words case 0) (held work.old counts) }
+    ensures written_bound { result.written ≤ counts.written + 15 }
 {
     let word = names[case];
-    let layer_set = set_at(work, layer_word(n, x, y, layer));
-    let row_set = set_at(work, row_word(n, x, row));
+    let layer_set = work[layer_word(n, x, y, parity.layer)];
+    let row_set = work[row_word(n, x, parity.row)];
     let new = new_set(
         named_set(word, counts.written),
         held_set(layer_set, row_set),
     );
-    put_set(work, layer_word(n, x, y, 1 - layer), new);
-    put_set(work, row_word(n, x, 1 - row), new);
+    put_set(work, layer_word(n, x, y, 1 - parity.layer), new);
+    put_set(work, row_word(n, x, 1 - parity.row), new);
     let first = first_made(word, counts.written);
     Counts {
         made: counts.made + first + u32::count_ones(new),
-        written: counts.written + (word / 4096) % 16,
+        written: counts.written + (word >> 12) % 16,
     }
 }
 
@@ -121,9 +119,7 @@ pub fn clear_held(work: &mut [u32], n: usize, row: usize)
     requires { (n ≤ 128) × (row ≤ 1) × (held_room n ≤ length work.old) }
     ensures { work.new ≡ clear_held n row n work.old }
 {
-    let mut x: usize = 0;
-    while x < n {
+    for x in 0..n {
         work[row_word(n, x, row)] = 0;
-        x += 1;
     }
 }

@@ -17,7 +17,7 @@ use Rattle.walk_models.specs.Owned.{Count, cell_new, count_cell}
 use Rattle.sign_cells.specs.Cells.{cells_in}
 use Rattle.cell_tally.specs.declared.Corners.{Corners}
 use Rattle.corner_signs.specs.Signs.{row_of}
-use Rattle.cell_tally.specs.Tally.{total, is_set, in_mask, of_signs, triangles_in, new_in}
+use Rattle.cell_tally.specs.Tally.{corner, total, is_set, in_mask, of_signs, triangles_in, new_in}
 use Rattle.cell_tally.proofs.Sums.{total-same, total_mono, in_mask-times}
 use Rattle.corner_signs.proofs.Identities.{row-threes}
 use Rattle.layer_tally.specs.Layer.{SignsOf}
@@ -46,7 +46,7 @@ new-most c mask first top =
         omega (
           arith,
           new_edges-length-le (owned (is_set first i) (is_set top i) false) (of_signs row_of c i),
-          row-threes (is_set c.c0 i) (is_set c.c1 i) (is_set c.c2 i) (is_set c.c3 i) (is_set c.c4 i) (is_set c.c5 i) (is_set c.c6 i) (is_set c.c7 i),
+          row-threes (is_set (corner c 0) i) (is_set (corner c 1) i) (is_set (corner c 2) i) (is_set (corner c 3) i) (is_set (corner c 4) i) (is_set (corner c 5) i) (is_set (corner c 6) i) (is_set (corner c 7) i),
         )
     each false i = omega arith
 

@@ -1,7 +1,7 @@
 -- The word of the right neighbours bit by bit, and the signs of a cell's corners from the sign words of two layers.
 use mathlib.Core.Path.{◌≡◌, refl, sym, ◌∙◌, ap, subst}
 use mathlib.Core.Bool.{Bool, true, false, ◌&&◌, ◌||◌}
-use mathlib.Core.List.{List}
+use mathlib.Core.List.{List, [], ◌∷◌}
 use Prim.Native.Nat.{ℕ, ◌+◌, ◌*◌, ◌/◌, ◌%◌, ◌^◌, ◌≤◌, ◌<◌}
 use native.Mathlib.Nat.{mod-lt, mod-eq_of_lt, div-one, div-eq_of_lt, mul-div_cancel}
 use native.Mathlib.Omega.{arith}
@@ -94,14 +94,7 @@ pub corners-from : (low high : List ℕ) (at c1 c2 c5 c6 : ℕ)
     → NextFrom (get_or high at 0) (get_or high (at + 1) 0) c5
     → NextFrom (get_or high (at + 4) 0) (get_or high (at + 4 + 1) 0) c6
     → CornersFrom low high at (record {
-      c0 = get_or low at 0;
-      c1 = c1;
-      c2 = c2;
-      c3 = get_or low (at + 4) 0;
-      c4 = get_or high at 0;
-      c5 = c5;
-      c6 = c6;
-      c7 = get_or high (at + 4) 0;
+      signs = get_or low at 0 ∷ c1 ∷ c2 ∷ get_or low (at + 4) 0 ∷ get_or high at 0 ∷ c5 ∷ c6 ∷ get_or high (at + 4) 0 ∷ [];
     })
 corners-from low high at c1 c2 c5 c6 f1 f2 f5 f6 n samples y z k e in_row most in-y low-words high-words j h l =
     let in-low : y < n = omega arith in

@@ -1,5 +1,4 @@
 mod MaskBits
 mod CornerBits
-mod OutsideStart
 mod CellCounts
 mod WordSteps

@@ -7,7 +7,7 @@ use Rattle.lent_mesh.specs.Grid.{inside_of}
 use Rattle.sign_words.specs.Words.{LayerWords}
 use Rattle.sign_cells.specs.Cells.{cells_in}
 use Rattle.cell_tally.specs.declared.Corners.{Corners}
-use Rattle.cell_tally.specs.Tally.{is_set}
+use Rattle.cell_tally.specs.Tally.{corner, is_set}
 
 -- bit j of word i is set where cell 32 * (i % 4) + j is one of the n - 1 of its row
 abbrev pub Masks : ℕ → List ℕ → Type 0
@@ -24,14 +24,14 @@ pub record NextFrom (word next r : ℕ) : Type 0 where
 
 -- the eight signs of cell (x, y, z)
 pub record SignsOf (g : Inside) (x y z : ℕ) (c : Corners) (j : ℕ) : Type 0 where
-  pub s0 : is_set c.c0 j ≡ g x y z
-  pub s1 : is_set c.c1 j ≡ g (x + 1) y z
-  pub s2 : is_set c.c2 j ≡ g (x + 1) (y + 1) z
-  pub s3 : is_set c.c3 j ≡ g x (y + 1) z
-  pub s4 : is_set c.c4 j ≡ g x y (z + 1)
-  pub s5 : is_set c.c5 j ≡ g (x + 1) y (z + 1)
-  pub s6 : is_set c.c6 j ≡ g (x + 1) (y + 1) (z + 1)
-  pub s7 : is_set c.c7 j ≡ g x (y + 1) (z + 1)
+  pub s0 : is_set (corner c 0) j ≡ g x y z
+  pub s1 : is_set (corner c 1) j ≡ g (x + 1) y z
+  pub s2 : is_set (corner c 2) j ≡ g (x + 1) (y + 1) z
+  pub s3 : is_set (corner c 3) j ≡ g x (y + 1) z
+  pub s4 : is_set (corner c 4) j ≡ g x y (z + 1)
+  pub s5 : is_set (corner c 5) j ≡ g (x + 1) y (z + 1)
+  pub s6 : is_set (corner c 6) j ≡ g (x + 1) (y + 1) (z + 1)
+  pub s7 : is_set (corner c 7) j ≡ g x (y + 1) (z + 1)
 
 -- the corners of the cells of word k of row y, from the words of two layers
 abbrev pub CornersFrom : List ℕ → List ℕ → ℕ → Corners → Type 0

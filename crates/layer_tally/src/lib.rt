@@ -10,6 +10,20 @@ ghost use Rattle.layer_tally.specs.Layer.{Masks, Firsts, NextFrom, CornersFrom, 
 
 use cell_tally::Corners;
 use lent_mesh::Counts;
+use sign_words::Layers;
+
+// The bits of a layer's words that stand for cells, and those for the first cell of each row, in a grid of n
+// samples to a side. It has 4 KB: lend it.
+#[derive(Drop)]
+pub struct CellMasks {
+    pub masks: [u32; 513],
+    pub firsts: [u32; 513],
+    pub n: usize,
+    pub ghost least: { 2 ≤ n },
+    pub ghost most: { n ≤ 128 },
+    pub ghost masks_are: { Masks n masks },
+    pub ghost firsts_are: { Firsts firsts },
+}
 
 // The bits of word k of a row that stand for cells.
 fn mask_of(n: usize, k: usize) -> u32
@@ -20,30 +34,38 @@ fn mask_of(n: usize, k: usize) -> u32
 }
 
 // These bits for each word of a layer.
-pub fn masks(n: usize) -> [u32; 513]
+fn masks(n: usize) -> [u32; 513]
     requires { (2 ≤ n) × (n ≤ 128) }
     ensures { Masks n result }
 {
-    let mut all = [0u32; 513];
-    let mut i: usize = 0;
-    while i < 512 {
+    let mut all = [0; 513];
+    for i in 0..512 {
         all[i] = mask_of(n, i % 4);
-        i += 1;
     }
     all
 }
 
 // The first cell of each row.
-pub fn firsts() -> [u32; 513]
+fn firsts() -> [u32; 513]
     ensures { Firsts result }
 {
-    let mut all = [0u32; 513];
-    let mut y: usize = 0;
-    while y < 128 {
+    let mut all = [0; 513];
+    for y in 0..128 {
         all[4 * y] = 1;
-        y += 1;
     }
     all
+}
+
+// The masks of a size, to be made once and lent.
+pub fn cell_masks(n: usize) -> CellMasks
+    requires { (2 ≤ n) × (n ≤ 128) }
+    ensures { result.n ≡ n }
+{
+    CellMasks {
+        masks: masks(n),
+        firsts: firsts(),
+        n,
+    }
 }
 
 // The bits of a word from the second on, and then the first of the next word.
@@ -62,87 +84,75 @@ fn next_word(words: &[u32; 513], at: usize) -> u32
 }
 
 // The eight corners of the cells of a word.
-fn corners_at(low: &[u32; 513], high: &[u32; 513], at: usize) -> Corners
+fn corners_at(layers: Layers, at: usize) -> Corners
     requires { at < 508 }
-    ensures { CornersFrom low.now high.now at result }
+    ensures { CornersFrom layers.entry.low.now layers.entry.high.now at result }
 {
+    let Layers { low, high } = layers;
     Corners {
-        c0: low[at],
-        c1: next_word(low, at),
-        c2: next_word(low, at + 4),
-        c3: low[at + 4],
-        c4: high[at],
-        c5: next_word(high, at),
-        c6: next_word(high, at + 4),
-        c7: high[at + 4],
+        signs: [
+            low[at],
+            next_word(low, at),
+            next_word(low, at + 4),
+            low[at + 4],
+            high[at],
+            next_word(high, at),
+            next_word(high, at + 4),
+            high[at + 4],
+        ],
     }
 }
 
 // The words from one place up to another; `top` is every bit where they are those of row 0, and none elsewhere.
 fn tally_words(
-    masks: &[u32; 513],
-    firsts: &[u32; 513],
-    low: &[u32; 513],
-    high: &[u32; 513],
-    n: usize,
+    masks: &CellMasks,
+    layers: Layers,
     from: usize,
     to: usize,
     top: u32,
     counts: Counts,
 ) -> Counts
-    requires le_n { (2 ≤ n) × (n ≤ 128) × Masks n masks.now × Firsts firsts.now }
-    requires from_le_to { (from ≤ to) × (to ≤ 4 * (n - 1)) }
-    requires made_le_written { (counts.made ≤ counts.written) × (counts.written + 480 * (to - from) < 2 ^ 32) }
-    ensures words_counted { WordsCounted low.now high.now n from to top (count_of counts) (count_of result) }
-    ensures written_bound { (result.written ≤ counts.written + 480 * (to - from)) × (result.made ≤ result.written) }
+    requires from_le_to { (from ≤ to) × (to ≤ 4 * (masks.now.n - 1)) }
+    requires written_fits { counts.written + 480 * (to - from) < 2 ^ 32 }
+    ensures words_counted { WordsCounted layers.entry.low.now layers.entry.high.now masks.now.n from to top (count_of counts) (count_of result) }
+    ensures written_bound { result.written ≤ counts.written + 480 * (to - from) }
 {
     let mut made = counts.made;
     let mut written = counts.written;
-    let mut i = from;
-    while i < to {
-        let corners = corners_at(low, high, i);
-        let mask = masks[i];
-        made = made + cell_tally::new_in(corners, mask, firsts[i], top);
-        written = written + 3 * cell_tally::triangles_in(corners, mask);
-        i += 1;
+    for i in from..to {
+        let corners = corners_at(layers, i);
+        let mask = masks.masks[i];
+        made += corners.new_in(mask, masks.firsts[i], top);
+        written += 3 * corners.triangles_in(mask);
     }
     Counts { made, written }
 }
 
 // How many rows at the start are outside throughout.
-fn rows_outside(low: &[u32; 513], high: &[u32; 513], n: usize) -> usize
+fn rows_outside(layers: Layers, n: usize) -> usize
     requires { (2 ≤ n) × (n ≤ 128) }
-    ensures { RowsOutside low.now high.now n result × (result ≤ n - 1) }
+    ensures { RowsOutside layers.entry.low.now layers.entry.high.now n result × (result ≤ n - 1) }
 {
-    let mut y: usize = 0;
-    while y < n - 1 {
-        if !sign_cells::outside(low, high, y) {
+    for y in 0..n - 1 {
+        if !sign_cells::outside(layers, y) {
             return y;
         }
-        y += 1;
     }
-    y
+    n - 1
 }
 
 // The layer between the sign words of two sample layers.
-pub fn tally_layer(
-    masks: &[u32; 513],
-    firsts: &[u32; 513],
-    low: &[u32; 513],
-    high: &[u32; 513],
-    n: usize,
-    counts: Counts,
-) -> Counts
-    requires le_n { (2 ≤ n) × (n ≤ 128) × Masks n masks.now × Firsts firsts.now }
-    requires made_le_written { (counts.made ≤ counts.written) × (counts.written + 243840 < 2 ^ 32) }
-    ensures layer_counted { LayerCounted low.now high.now n (count_of counts) (count_of result) }
-    ensures written_bound { (result.written ≤ counts.written + 243840) × (result.made ≤ result.written) }
+pub fn tally_layer(masks: &CellMasks, layers: Layers, counts: Counts) -> Counts
+    requires { counts.written + 243840 < 2 ^ 32 }
+    ensures layer_counted { LayerCounted layers.entry.low.now layers.entry.high.now masks.now.n (count_of counts) (count_of result) }
+    ensures written_bound { result.written ≤ counts.written + 243840 }
 {
-    let first = rows_outside(low, high, n);
-    let end = 4 * (n - 1);
+    let first = rows_outside(layers, masks.n);
+    let end = 4 * (masks.n - 1);
     if first == 0 {
-        let begun = tally_words(masks, firsts, low, high, n, 0, 4, 0xFFFF_FFFF, counts);
-        return tally_words(masks, firsts, low, high, n, 4, end, 0, begun);
+        let begun = tally_words(masks, layers, 0, 4, 0xFFFF_FFFF, counts);
+        tally_words(masks, layers, 4, end, 0, begun)
+    } else {
+        tally_words(masks, layers, 4 * first, end, 0, counts)
     }
-    tally_words(masks, firsts, low, high, n, 4 * first, end, 0, counts)
 }

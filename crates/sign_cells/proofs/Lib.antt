@@ -1,6 +1,5 @@
 pub mod LongWords
 pub mod QuadBits
-pub mod RowEnd
 pub mod ActiveCells
 pub mod SetBits
 pub mod LowestBits

@@ -29,19 +29,16 @@ abbrev pub ZeroWords : List ℕ → List ℕ → ℕ → ℕ → Type 0
 ZeroWords low high y i = (j : ℕ) → j < i → (get_or low (4 * y + j) 0 ≡ 0) × (get_or high (4 * y + j) 0 ≡ 0)
 
 module _ (low high : List ℕ) (y : ℕ) where
-  pub zero_words-none : ZeroWords low high y 0
-  zero_words-none j h = absurd (omega arith)
-
   pub zero_words-suc : (i some : ℕ) → (some ≡ 0 → ZeroWords low high y i)
-      → bit_or (bit_or some (get_or low (4 * y + i) 0)) (get_or high (4 * y + i) 0) ≡ 0 → ZeroWords low high y (i + 1)
+      → bit_or some (bit_or (get_or low (4 * y + i) 0) (get_or high (4 * y + i) 0)) ≡ 0 → ZeroWords low high y (i + 1)
   zero_words-suc i some before e j h =
-      let upper = or-none (bit_or some (get_or low (4 * y + i) 0)) (get_or high (4 * y + i) 0) e in
-      let lower = or-none some (get_or low (4 * y + i) 0) upper.0 in
+      let parts = or-none some (bit_or (get_or low (4 * y + i) 0) (get_or high (4 * y + i) 0)) e in
+      let words = or-none (get_or low (4 * y + i) 0) (get_or high (4 * y + i) 0) parts.1 in
       elim (dec_lt j i) [
-        | yes p ↦ before lower.0 j p
+        | yes p ↦ before parts.0 j p
         | no p ↦
             let same : i ≡ j = omega arith in
-            subst (λ (m : ℕ). (get_or low (4 * y + m) 0 ≡ 0) × (get_or high (4 * y + m) 0 ≡ 0)) same (lower.1, upper.1)
+            subst (λ (m : ℕ). (get_or low (4 * y + m) 0 ≡ 0) × (get_or high (4 * y + m) 0 ≡ 0)) same words
       ]
 
 -- ---- what the words say

@@ -3,8 +3,10 @@
 
 #![tactic(auto)]
 
-ghost use Rattle.std.specs.Prelude.{◌≡◌, ◌+◌, ◌^◌, ◌%◌, ◌≤◌, ◌<◌, get_or};
+ghost use Rattle.std.specs.Prelude.{◌≡◌, ◌^◌, ◌%◌, ◌≤◌, ◌<◌};
 ghost use Rattle.sign_cells.specs.Cells.{LongWordFrom, QuadFrom, cells_in, ActiveFrom, CaseFrom, OutsideFrom};
+
+use sign_words::Layers;
 
 // The signs of four rows from sample 32 * k on: rows y and y + 1 of the lower layer, then of the upper.
 #[derive(Clone, Copy)]
@@ -15,13 +17,6 @@ pub struct Quad {
     pub d: u64,
 }
 
-fn word_at(words: &[u32; 513], at: usize) -> u32
-    requires { at < 513 }
-    ensures { result ≡ get_or words.now at 0 }
-{
-    words[at]
-}
-
 // Word k of row y, and the next word above it. Above a row's fourth word that is the next row's first,
 // which no cell looks at; a test for it would cost more than the word.
 fn long_word(words: &[u32; 513], y: usize, k: usize) -> u64
@@ -29,20 +24,7 @@ fn long_word(words: &[u32; 513], y: usize, k: usize) -> u64
     ensures { LongWordFrom words.now y k result }
 {
     let at = 4 * y + k;
-    let low = word_at(words, at) as u64;
-    low | ((word_at(words, at + 1) as u64) << 32)
-}
-
-pub fn quad_at(low: &[u32; 513], high: &[u32; 513], y: usize, k: usize) -> Quad
-    requires { (y < 127) × (k < 4) }
-    ensures { QuadFrom low.now high.now y k result }
-{
-    Quad {
-        a: long_word(low, y, k),
-        b: long_word(low, y + 1, k),
-        c: long_word(high, y, k),
-        d: long_word(high, y + 1, k),
-    }
+    u64::from(words[at]) | (u64::from(words[at + 1]) << 32)
 }
 
 // The bits of the cells of word k; those past the row's last cell are cut off.
@@ -60,42 +42,55 @@ pub fn cut(word: u32, n: usize, k: usize) -> u32
     }
 }
 
-// The cells of word k whose corners are not all alike: bit i is set for cell 32 * k + i.
-pub fn active(q: Quad, n: usize, k: usize) -> u32
-    requires { (2 ≤ n) × (n ≤ 128) × (k < 4) }
-    ensures { ActiveFrom q n k result }
-{
-    let some = q.a | q.b | q.c | q.d;
-    let every = q.a & q.b & q.c & q.d;
-    let mixed = (some | (some >> 1)) ^ (every & (every >> 1));
-    cut((mixed % 4294967296) as u32, n, k)
-}
+impl Quad {
+    // Word k of the rows y and y + 1 of both layers.
+    pub fn at(layers: Layers, y: usize, k: usize) -> Quad
+        requires { (y < 127) × (k < 4) }
+        ensures { QuadFrom layers.entry.low.now layers.entry.high.now y k result }
+    {
+        Quad {
+            a: long_word(layers.low, y, k),
+            b: long_word(layers.low, y + 1, k),
+            c: long_word(layers.high, y, k),
+            d: long_word(layers.high, y + 1, k),
+        }
+    }
 
-// The sign byte of cell i of the word.
-pub fn case_of(q: Quad, i: u32) -> usize
-    requires { i < 32 }
-    ensures case_from { CaseFrom q i result }
-    ensures upper_bound { result < 256 }
-{
-    let a = (q.a >> i) % 4;
-    let b = (q.b >> i) % 4;
-    let c = (q.c >> i) % 4;
-    let d = (q.d >> i) % 4;
-    (a + 4 * (b / 2) + 8 * (b % 2) + 16 * c + 64 * (d / 2) + 128 * (d % 2)) as usize
+    // The cells of word k whose corners are not all alike: bit i is set for cell 32 * k + i.
+    pub fn active(self, n: usize, k: usize) -> u32
+        requires { (2 ≤ n) × (n ≤ 128) × (k < 4) }
+        ensures { ActiveFrom self n k result }
+    {
+        let some = self.a | self.b | self.c | self.d;
+        let every = self.a & self.b & self.c & self.d;
+        let mixed = (some | (some >> 1)) ^ (every & (every >> 1));
+        cut((mixed % 0x1_0000_0000) as u32, n, k)
+    }
+
+    // The sign byte of cell i of the word.
+    pub fn case_of(self, i: u32) -> usize
+        requires { i < 32 }
+        ensures case_from { CaseFrom self i result }
+        ensures upper_bound { result < 256 }
+    {
+        let a = (self.a >> i) % 4;
+        let b = (self.b >> i) % 4;
+        let c = (self.c >> i) % 4;
+        let d = (self.d >> i) % 4;
+        (a + 4 * (b / 2) + 8 * (b % 2) + 16 * c + 64 * (d / 2) + 128 * (d % 2)) as usize
+    }
 }
 
 // Whether the rows y and y + 1 of both layers are outside throughout: no cell between them visits
 // anything. The count is written out, so that the loop can take several words at a time.
-pub fn outside(low: &[u32; 513], high: &[u32; 513], y: usize) -> bool
+pub fn outside(layers: Layers, y: usize) -> bool
     requires { y < 127 }
-    ensures { OutsideFrom low.now high.now y result }
+    ensures { OutsideFrom layers.entry.low.now layers.entry.high.now y result }
 {
-    let mut some: u32 = 0;
-    let mut i: usize = 0;
-    while i < 8 {
+    let mut some = 0;
+    for i in 0..8 {
         let at = 4 * y + i;
-        some = some | low[at] | high[at];
-        i += 1;
+        some |= layers.low[at] | layers.high[at];
     }
     some == 0
 }

@@ -5,7 +5,14 @@
 
 ghost use Rattle.std.specs.Prelude.{◌≡◌, ◌+◌, ◌*◌, ◌/◌, ◌≤◌, ◌<◌, length};
 ghost use Rattle.marching_cubes_impl.specs.Sample.{inside};
-ghost use Rattle.sign_words.specs.Words.{word_of, kept_bit, sign_word, word_from, LayerWords, WordsFrom, RowFilled};
+ghost use Rattle.sign_words.specs.Words.{word_of, kept_bit, sign_word, word_from, LayerWords, WordsFilled, RowFilled};
+
+// The sign words of a layer of cells: of the samples below it and above it.
+#[derive(Clone, Copy)]
+pub struct Layers<'a> {
+    pub low: &'a [u32; 513],
+    pub high: &'a [u32; 513],
+}
 
 // The sign of a sample. A NaN is outside.
 fn is_inside(sample: f32) -> bool
@@ -28,80 +35,71 @@ fn kept(inside: bool, i: usize) -> u32
 
 // The signs of 32 samples: of all bits those of the samples outside go. The count is written out, and each
 // turn is an `&` with a word that is not one bit, so that the compiler takes four samples at a time.
-fn whole_word(samples: &[f32], at: usize) -> u32
-    requires { at + 32 ≤ length samples.now }
-    ensures { result ≡ sign_word samples.now at 32 }
+fn whole_word(samples: &[f32]) -> u32
+    requires { 32 ≤ length samples.now }
+    ensures { result ≡ sign_word samples.now 32 }
 {
-    let mut word: u32 = 0xFFFF_FFFF;
-    let mut i: usize = 0;
-    while i < 32 {
-        word = word & kept(is_inside(samples[at + i]), i);
-        i += 1;
+    let mut word = 0xFFFF_FFFF;
+    for i in 0..32 {
+        word &= kept(is_inside(samples[i]), i);
     }
     word
 }
 
 // The signs of fewer.
-fn part_word(samples: &[f32], at: usize, count: usize) -> u32
-    requires { (count ≤ 32) × (at + count ≤ length samples.now) }
-    ensures { result ≡ sign_word samples.now at count }
+fn part_word(samples: &[f32]) -> u32
+    requires { length samples.now ≤ 32 }
+    ensures { result ≡ sign_word samples.now (length samples.now) }
 {
-    let mut word: u32 = 0;
-    let mut i: usize = 0;
-    while i < count {
-        word = word | ((is_inside(samples[at + i]) as u32) << i);
-        i += 1;
+    let mut word = 0;
+    for (i, sample) in samples.iter().enumerate() {
+        word |= u32::from(is_inside(*sample)) << i;
     }
     word
 }
 
-// Word k of the row of n samples that starts at a place, where it is not whole; past the row's end the
-// bits are 0.
-fn end_word(samples: &[f32], start: usize, n: usize, k: usize) -> u32
-    requires { (k < 4) × (n ≤ 128) × (start + n ≤ length samples.now) × (n < 32 * k + 32) }
-    ensures { result ≡ word_from samples.now start n k }
+// Word k of a row, where it is not whole; past the row's end the bits are 0.
+fn end_word(row: &[f32], k: usize) -> u32
+    requires { (k < 4) × (length row.now < 32 * k + 32) }
+    ensures { result ≡ word_from row.now k }
 {
     let first = 32 * k;
-    if first < n {
-        part_word(samples, start + first, n - first)
+    if first < row.len() {
+        part_word(&row[first..])
     } else {
         0
     }
 }
 
 // The whole words of row y. They have a loop of their own, since most words are whole.
-fn fill_whole(samples: &[f32], start: usize, n: usize, y: usize, words: &mut [u32])
-    requires { (n ≤ 128) × (y < n) × (start + n ≤ length samples.now) × (length words.old ≡ 513) }
-    ensures { WordsFrom n samples.now start y 0 (n / 32) words.old words.new }
+fn fill_whole(row: &[f32], y: usize, words: &mut [u32; 513])
+    requires { (length row.now ≤ 128) × (y < 128) }
+    ensures { WordsFilled row.now y 0 (length row.now / 32) words.old words.new }
 {
-    let whole = n / 32;
-    let mut k: usize = 0;
-    while k < whole {
-        words[4 * y + k] = whole_word(samples, start + 32 * k);
-        k += 1;
+    for k in 0..row.len() / 32 {
+        words[4 * y + k] = whole_word(&row[32 * k..]);
     }
 }
 
 // The others.
-fn fill_end(samples: &[f32], start: usize, n: usize, y: usize, words: &mut [u32])
-    requires { (n ≤ 128) × (y < n) × (start + n ≤ length samples.now) × (length words.old ≡ 513) }
-    ensures { WordsFrom n samples.now start y (n / 32) 4 words.old words.new }
+fn fill_end(row: &[f32], y: usize, words: &mut [u32; 513])
+    requires { (length row.now ≤ 128) × (y < 128) }
+    ensures { WordsFilled row.now y (length row.now / 32) 4 words.old words.new }
 {
-    let mut k = n / 32;
-    while k < 4 {
-        words[4 * y + k] = end_word(samples, start, n, k);
-        k += 1;
+    for k in row.len() / 32..4 {
+        words[4 * y + k] = end_word(row, k);
     }
 }
 
 // The four words of row y of the sample layer z.
-fn fill_row(samples: &[f32], n: usize, y: usize, z: usize, words: &mut [u32])
-    requires { (n ≤ 128) × (y < n) × (n * n * (z + 1) ≤ length samples.now) × (length words.old ≡ 513) }
+fn fill_row(samples: &[f32], n: usize, y: usize, z: usize, words: &mut [u32; 513])
+    requires { (n ≤ 128) × (y < n) × (n * n * (z + 1) ≤ length samples.now) }
     ensures { RowFilled n samples.now y z words.old words.new }
 {
     let start = (z * n + y) * n;
-    fill_whole(samples, start, n, y, words);
-    fill_end(samples, start, n, y, words);
+    let row = &samples[start..start + n];
+    fill_whole(row, y, words);
+    fill_end(row, y, words);
 }
 
 // The words of the sample layer z.
@@ -109,9 +107,7 @@ pub fn fill_layer(samples: &[f32], n: usize, z: usize, words: &mut [u32; 513])
     requires { (2 ≤ n) × (n ≤ 128) × (n * n * (z + 1) ≤ length samples.now) }
     ensures { LayerWords n samples.now z words.new }
 {
-    let mut y: usize = 0;
-    while y < n {
+    for y in 0..n {
         fill_row(samples, n, y, z, words);
-        y += 1;
     }
 }

@@ -1,7 +1,5 @@
 -- `clear_held`: after x turns the first x places are cleared.
-use mathlib.Core.Path.{◌≡◌, refl}
-use native.Mathlib.Omega.{arith}
-use lib.ListN.{length-set}
+use mathlib.Core.Path.{refl}
 use Rattle.walk.specs.Walk.{times}
 use Rattle.held_bits.specs.HeldCell.{clear_held}
 use Rattle.held_bits.proofs.CellSteps.{clear_held-suc}
@@ -9,12 +7,7 @@ use Rattle.held_bits.proofs.clear_held.Goals as goal
 
 pub loop-x-init : goal.loop-x-init
 unfolding clear_held times
-loop-x-init c = (omega arith, refl, refl)
+loop-x-init c = refl
 
 pub loop-x-preserved : goal.loop-x-preserved
-loop-x-preserved c = (omega arith, simp length-set c.loop-x.invariant.1, clear_held-suc _ _ _ _ _ _ _ c.row_word.ensures.0 c.loop-x.invariant.2 refl)
-
-pub returns : goal.returns
-returns c =
-    let end : c.loop-x.x ≡ c.args.n = omega arith in
-    rw end at c.loop-x.invariant.2
+loop-x-preserved c = clear_held-suc _ _ _ _ _ _ _ c.row_word.ensures.0 c.loop-x.invariant refl

@@ -1,12 +1,7 @@
 -- `clear_held`: after x turns the first x places are cleared.
 use mathlib.Core.Path.{◌≡◌}
-use Prim.Native.Nat.{◌-◌, ◌≤◌}
-use lib.ListN.{length}
 use Rattle.held_bits.specs.HeldCell.{clear_held}
 use Rattle.held_bits.proofs.clear_held.Given as goal
 
 abbrev pub invariant-loop-x : goal.invariant-loop-x
-invariant-loop-x l = (l.x ≤ l.n) × (length l.work ≡ length l.initial.work) × (l.work ≡ clear_held l.n l.row l.x l.initial.work)
-
-abbrev pub decreases-loop-x : goal.decreases-loop-x
-decreases-loop-x l = l.n - l.x
+invariant-loop-x l = l.work ≡ clear_held l.n l.row l.x l.initial.work

@@ -1,12 +1,8 @@
 -- `masks`: after i turns the first i words are made.
 use mathlib.Core.Path.{◌≡◌}
-use Prim.Native.Nat.{◌-◌, ◌≤◌}
 use lib.ListN.{length}
 use Rattle.layer_tally.proofs.MaskBits.{MasksMade}
 use Rattle.layer_tally.proofs.masks.Given as goal
 
 abbrev pub invariant-loop-i : goal.invariant-loop-i
-invariant-loop-i l = (l.i ≤ 512) × (length l.all ≡ 513) × MasksMade l.n l.i l.all
-
-abbrev pub decreases-loop-i : goal.decreases-loop-i
-decreases-loop-i l = 512 - l.i
+invariant-loop-i l = (length l.all ≡ 513) × MasksMade l.n l.i l.all

@@ -2,7 +2,7 @@
 use mathlib.Core.Bool.{Bool}
 use mathlib.Core.List.{List}
 use mathlib.Core.Path.{◌≡◌}
-use Prim.Native.Nat.{ℕ, ◌+◌, ◌-◌, ◌≤◌}
+use Prim.Native.Nat.{ℕ}
 use lib.ListN.{get_or}
 use lib.Ieee.{Float, nan}
 use Rattle.marching_cubes_impl.specs.Sample.{inside}
@@ -10,11 +10,8 @@ use Rattle.sign_words.specs.Words.{word_of}
 use Rattle.sign_words.proofs.KeptBits.{still}
 use Rattle.sign_words.proofs.whole_word.Given as goal
 
-abbrev pub sign : List Float → ℕ → ℕ → Bool
-sign samples at i = inside (get_or samples (at + i) nan)
+abbrev pub sign : List Float → ℕ → Bool
+sign samples i = inside (get_or samples i nan)
 
 abbrev pub invariant-loop-i : goal.invariant-loop-i
-invariant-loop-i l = (l.i ≤ 32) × (l.word ≡ word_of (still (sign l.samples l.at) l.i) 32)
-
-abbrev pub decreases-loop-i : goal.decreases-loop-i
-decreases-loop-i l = 32 - l.i
+invariant-loop-i l = l.word ≡ word_of (still (sign l.samples) l.i) 32
