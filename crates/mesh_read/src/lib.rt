@@ -13,7 +13,8 @@ use mesh_checks::check_record;
 use refusals::Refusal;
 use words_read::copy_words;
 
-// What the reader answers. A field that the cause does not use is 0.
+// What the reader answers. A field that the cause does not use is 0. No Result and no enum: the C
+// interface takes these fields and numbers.
 #[repr(C)]
 #[derive(Clone, Copy)]
 pub struct ReadAnswer {

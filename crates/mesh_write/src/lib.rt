@@ -12,7 +12,8 @@ use mesh_record::{check_opening, is_finite};
 use refusals::Refusal;
 use words_write::put_words;
 
-// What the writer answers. A field that the cause does not use is 0.
+// What the writer answers. A field that the cause does not use is 0. No Result and no enum: the C
+// interface takes these fields and numbers.
 #[repr(C)]
 #[derive(Clone, Copy)]
 pub struct WriteAnswer {
