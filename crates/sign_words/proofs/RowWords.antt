@@ -1,9 +1,9 @@
--- The words of a row: the one that the code chooses is the defined one, and one word more.
+-- The words of a row: the one that the code chooses is the defined one, one word more, and a row among the samples of a grid.
 use mathlib.Core.Path.{◌≡◌, sym, ◌∙◌, ap}
 use mathlib.Core.Bool.{Bool, false, ◌&&◌}
 use mathlib.Core.List.{List}
-use Prim.Native.Nat.{ℕ, ◌+◌, ◌*◌, ◌-◌, ◌%◌, ◌^◌, ◌≤◌, ◌<◌}
-use native.Mathlib.Nat.{le_trans, mul-le-mul_left}
+use Prim.Native.Nat.{ℕ, ◌+◌, ◌*◌, ◌-◌, ◌/◌, ◌%◌, ◌^◌, ◌≤◌, ◌<◌}
+use native.Mathlib.Nat.{le_trans, mul-le-mul_right, mul-le-mul_left}
 use native.Mathlib.Decide.{dec_lt}
 use native.Mathlib.Omega.{arith}
 use lib.Dec.{ltb}
@@ -15,7 +15,9 @@ use mir.Val.{bool_byte}
 use Rattle.std.proofs.lemmas.List.{length-drop, length-take-le, get_or-take, get_or-drop}
 use borrow.Author.Tests.{lt-ltb, le-ltb}
 use Rattle.marching_cubes_impl.specs.Sample.{inside}
-use Rattle.sign_words.specs.Words.{word_of, sign_word, word_from, inside_row, WordsFilled}
+use Rattle.lent_mesh.specs.Grid.{inside_of}
+use Rattle.lent_mesh.proofs.Places.{in-row-lt}
+use Rattle.sign_words.specs.Words.{word_of, sign_word, word_from, inside_row, WordsFilled, RowFilled}
 use Rattle.sign_words.proofs.Words.{word_of-turn, word_of-same, word_of-top}
 
 -- ---- a turn of the loop of `part_word`
@@ -81,11 +83,53 @@ module _ (row : List Float) where
         kept = λ i l. get_or-set_other after (4 * y + k) i word 0 (λ q. omega (arith, q)) ∙ begun.kept i l;
       }
 
+-- ---- the row that stands among the samples of a grid
+
+module _ (n : ℕ) (samples : List Float) (z y count : ℕ) (whole : count ≡ n) (there : (z * n + y) * n + n ≤ length samples) where
+  abbrev here : List Float
+  here = take count (drop ((z * n + y) * n) samples)
+
+  here-length : length here ≡ n
+  here-length =
+      length-take-le count (drop ((z * n + y) * n) samples) (omega (arith, whole, there, length-drop ((z * n + y) * n) samples)) ∙ whole
+
+  here-is : (x : ℕ) → (ltb x (length here) && inside (get_or here x nan)) ≡ inside_row n samples y z x
+  here-is x =
+      ap (λ (m : ℕ). ltb x m && inside (get_or here x nan)) here-length
+      ∙ elim (dec_lt x n) [
+        | yes l ↦ ap (λ (v : Float). ltb x n && inside v) (in_samples samples ((z * n + y) * n) count x (omega (arith, whole)))
+        | no l ↦
+            let past : ltb x n ≡ false = le-ltb x n (omega arith) in
+            ap (λ (b : Bool). b && inside (get_or here x nan)) past ∙ sym (ap (λ (b : Bool). b && inside_of n samples x y z) past)
+      ]
+
+  here-word : (k : ℕ) → word_from here k ≡ word_of (λ i. inside_row n samples y z (32 * k + i)) 32
+  here-word k = word_of-same _ _ 32 (λ i h. here-is (32 * k + i))
+
+  -- the whole words, then the others
+  pub row-filled : (before between after : List ℕ) → WordsFilled here y 0 (length here / 32) before between → WordsFilled here y (length here / 32) 4 between after
+      → RowFilled n samples y z before after
+  row-filled before between after first second = (
+    λ k h.
+        elim (dec_lt k (length here / 32)) [
+          | yes l ↦ second.kept (4 * y + k) (omega arith) ∙ first.words k (omega arith) l ∙ here-word k
+          | no l ↦ second.words k (omega arith) h ∙ here-word k
+        ],
+    λ i l. second.kept i (omega arith) ∙ first.kept i (omega arith),
+  )
+
 -- rows below y are filled
 abbrev pub RowsFilled : ℕ → List Float → ℕ → ℕ → List ℕ → Type 0
 RowsFilled n samples z y words = (j k : ℕ) → j < y → k < 4 → get_or words (4 * j + k) 0 ≡ word_of (λ i. inside_row n samples j z (32 * k + i)) 32
 
 -- ---- places
+
+-- a row of samples starts where there is room for it
+pub row_within : (n y z : ℕ) → y < n → (z * n + y) * n + n ≤ n * n * (z + 1)
+row_within n y z h =
+    let a : z * n + y < (z + 1) * n = in-row-lt n (z + 1) z y h (omega arith) in
+    let b : (z * n + y + 1) * n ≤ (z + 1) * n * n = mul-le-mul_right n (let c : z * n + y + 1 ≤ (z + 1) * n = omega arith in c) in
+    omega arith
 
 -- the first planes of a whole grid
 pub planes-le : (n planes samples : ℕ) → planes ≤ n + 1 → n * n * (n + 1) ≤ samples → n * n * planes ≤ samples

@@ -1,0 +1,13 @@
+-- `fill_row`: the whole words, then the others.
+use Prim.Native.Nat.{◌+◌, ◌*◌, ◌≤◌}
+use native.Mathlib.Nat.{le_trans}
+use native.Mathlib.Omega.{arith}
+use lib.ListN.{length}
+use Rattle.sign_words.proofs.RowWords.{row-filled, row_within}
+use Rattle.sign_words.proofs.fill_row.Goals as goal
+
+pub returns : goal.returns
+returns c =
+    let args = c.args in
+    let there : (args.z * args.n + args.y) * args.n + args.n ≤ length args.samples.now = le_trans (row_within args.n args.y args.z c.requires.1) c.requires.2 in
+    row-filled args.n args.samples.now args.z args.y _ (omega arith) there _ _ _ c.fill_whole.ensures c.fill_end.ensures
