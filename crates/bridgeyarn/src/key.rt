@@ -1,8 +1,8 @@
 // The calls about Morton keys. Level, parent, child, half-size and center refuse a bad key with
 // cause 9; the sum and the difference take any two words.
 ghost use Rattle.std.specs.Prelude.{◌≡◌};
-ghost use Rattle.morton.specs.Answer.{level_of, parent_of, child_of};
-ghost use Rattle.morton_cells.specs.Cell.{half_size_of, center_of, point_cause};
+ghost use Rattle.morton.specs.Answer.{level_of, parent_of, child_of, key_cause};
+ghost use Rattle.morton_cells.specs.Cell.{half_size_of, center_of};
 ghost use Rattle.morton_sums.specs.Interleaved.{sum_of, difference_of};
 ghost use Rattle.key_answer.specs.Key.{key_answer, half_size_answer, center_left};
 
@@ -43,7 +43,7 @@ pub extern "C" fn bridgeyarn_morton_half_size(key: u64) -> HalfSizeAnswer
 // The center of the key's cell; what is lent stays as it was where refused.
 #[unsafe(no_mangle)]
 pub extern "C" fn bridgeyarn_morton_center(key: u64, center: &mut [f32; 3]) -> u32
-    ensures { (result ≡ point_cause (center_of key)) × (center.new ≡ center_left (center_of key) center.old) }
+    ensures { (result ≡ key_cause (center_of key)) × (center.new ≡ center_left (center_of key) center.old) }
 {
     key_answer::center(key, center)
 }

@@ -5,7 +5,7 @@ ghost use Rattle.mesh_read.specs.Reading.{left as reading_left};
 ghost use Rattle.mesh_write.specs.Writing.{mesh_of, left, writing};
 
 use mesh_read::ReadAnswer;
-use mesh_write::WriteAnswer;
+use mesh_write::{LentMesh, WriteAnswer};
 
 // The record of the lent coordinates and indices into the lent bytes; see `write_mesh`.
 #[unsafe(no_mangle)]
@@ -20,7 +20,13 @@ pub extern "C" fn bridgeyarn_mesh_write(
     ensures { left result out.new
         ≡ writing version (mesh_of size numbering coordinates.now indices.now) out.old }
 {
-    mesh_write::write_mesh(version, size, numbering, coordinates, indices, out)
+    let mesh = LentMesh {
+        size,
+        numbering,
+        coordinates,
+        indices,
+    };
+    mesh_write::write_mesh(version, &mesh, out)
 }
 
 // The mesh of a record into the lent coordinates and indices; see `read_mesh`.

@@ -17,10 +17,9 @@ use Rattle.marching_cubes_impl.specs.declared.edge.Crossing.TheVariants.{At}
 use Rattle.marching_cubes_impl.specs.Cell.{cell_of}
 use Rattle.marching_cubes_impl.specs.Edge.{offset_of, crosses, crossing_of}
 use Rattle.marching_cubes_impl.specs.Vertex.{between}
-use Rattle.morton.specs.declared.Number.{Number}
-use Rattle.morton.specs.declared.Number.TheVariants as number
-use Rattle.morton_cells.specs.declared.Point.{Point}
-use Rattle.morton_cells.specs.declared.Point.TheVariants as point
+use Rattle.std.specs.Prelude.{Result, Ok}
+use Rattle.morton.specs.declared.BadKey.{BadKey}
+use Rattle.morton_cells.specs.declared.Vec3.{Vec3}
 use Rattle.morton.specs.Key.{top_bit, good as good_key, level_in}
 use Rattle.morton_sums.specs.Interleaved.{thirds, spread}
 use Rattle.morton.specs.Answer.{level_of, parent_of}
@@ -47,8 +46,8 @@ data Answer : Type 0 where
   is_cell : Cell → Answer
   is_crossing : Crossing → Answer
   is_offset : Float → Answer
-  is_number : Number → Answer
-  is_point : Point → Answer
+  is_number : Result ℕ BadKey → Answer
+  is_point : Result Vec3 BadKey → Answer
 
 abbrev old_work : List ℕ
 old_work = replicate 46 7
@@ -150,9 +149,9 @@ cases : map answer (
     is_cell (record { signs = 0; edges = replicate 16 (negsuc 0) }) ∷
     is_crossing (At quarter) ∷
     is_offset half ∷
-    is_number (number.Is 1) ∷
-    is_number (number.Is 1) ∷
-    is_point (point.At (record { x = quarter; y = quarter; z = quarter })) ∷
+    is_number (Ok 1) ∷
+    is_number (Ok 1) ∷
+    is_point (Ok (record { x = quarter; y = quarter; z = quarter })) ∷
     refused 1 0 ∷
     done 0 [] [] ∷
     refused 5 3 ∷

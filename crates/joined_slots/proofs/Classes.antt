@@ -5,8 +5,8 @@ use native.Mathlib.Omega.{arith}
 use borrow.Author.Tests.{eq-eqb, ne_eqb}
 use Rattle.joined_slots.specs.OneCell.{class_of}
 
-pub class-first : (class x y z : ℕ) → x ≡ 0 → class ≡ class_of 1 y z → class + 1 ≡ class_of x y z
-class-first class x y z h e = rw (eq-eqb x 0 h) (omega arith)
+pub class_first : (class x y z : ℕ) → x ≡ 0 → class ≡ class_of 1 y z → class + 1 ≡ class_of x y z
+class_first class x y z h e = rw (eq-eqb x 0 h) (omega arith)
 
-pub class-later : (class x y z : ℕ) → (x ≡ 0 → ⊥) → class ≡ class_of 1 y z → class ≡ class_of x y z
-class-later class x y z h e = e ∙ rw (ne_eqb x 0 h)
+pub class_later : (class x y z : ℕ) → (x ≡ 0 → ⊥) → class ≡ class_of 1 y z → class ≡ class_of x y z
+class_later class x y z h e = e ∙ rw (ne_eqb x 0 h)

@@ -33,8 +33,8 @@ twelve-slots n z x y (suc (suc (suc (suc (suc (suc (suc (suc (suc (suc zero)))))
 twelve-slots n z x y (suc (suc (suc (suc (suc (suc (suc (suc (suc (suc (suc zero))))))))))) h = omega arith
 twelve-slots n z x y (suc (suc (suc (suc (suc (suc (suc (suc (suc (suc (suc (suc e)))))))))))) h = absurd (omega arith)
 
-pub slots-hold : (n z : ℕ) (l : List ℕ) → l ≡ twelve n z → Slots n z l
-slots-hold n z l e = subst (Slots n z) (sym e) (twelve-slots n z)
+pub slots_hold : (n z : ℕ) (l : List ℕ) → l ≡ twelve n z → Slots n z l
+slots_hold n z l e = subst (Slots n z) (sym e) (twelve-slots n z)
 
 pub slots-from : (at n x y z : ℕ) (l : List ℕ) → Slots n z l → at ≡ 8 * (y * n + x) → SlotsFrom at l n x y z
 unfolding Slots

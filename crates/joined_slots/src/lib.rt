@@ -10,6 +10,7 @@ ghost use Rattle.walk.specs.Walk.{bit};
 ghost use Rattle.joined_slots.specs.OneCell.{Slots, class_of};
 
 // Where the twelve edges of a cell of layer z have their numbers, from the cell's own place on.
+#[tactic(auto, using(crate::proofs::TwelveSlots::slots_hold))]
 pub fn slots(n: usize, z: usize) -> [usize; 12]
     requires { n ≤ 128 }
     ensures { Slots n z result }
@@ -33,20 +34,15 @@ pub fn slots(n: usize, z: usize) -> [usize; 12]
     ]
 }
 
-fn is_zero(number: usize) -> usize
-    ensures { (result ≡ bit (eqb number 0)) × (result ≤ 1) }
-{
-    if number == 0 { 1 } else { 0 }
-}
-
 // The class of the cells of a row but the first.
 pub fn class_of_row(y: usize, z: usize) -> usize
     ensures { (result ≡ class_of 1 y z) × (result ≤ 6) }
 {
-    2 * is_zero(y) + 4 * is_zero(z)
+    2 * usize::from(y == 0) + 4 * usize::from(z == 0)
 }
 
 // The class of the cell x, from that of the row's cells but the first.
+#[tactic(auto, using(crate::proofs::Classes::class_first, crate::proofs::Classes::class_later))]
 pub fn class_at(class: usize, x: usize) -> usize
     requires { class ≤ 6 }
     ensures { (y z : ℕ) → class ≡ class_of 1 y z → result ≡ class_of x y z }

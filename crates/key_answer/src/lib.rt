@@ -4,14 +4,15 @@
 #![tactic(auto)]
 
 ghost use Rattle.std.specs.Prelude.{◌≡◌};
-ghost use Rattle.morton.specs.Answer.{level_of, parent_of, child_of};
-ghost use Rattle.morton_cells.specs.Cell.{half_size_of, center_of, point_cause};
+ghost use Rattle.morton.specs.Answer.{level_of, parent_of, child_of, key_cause};
+ghost use Rattle.morton_cells.specs.Cell.{half_size_of, center_of};
 ghost use Rattle.key_answer.specs.Key.{key_answer, half_size_answer, center_left};
 
-use morton::Number;
-use morton_cells::{Length, Point};
+use morton::BadKey;
+use morton_cells::Vec3;
 
-// A level or a key; 0 where refused.
+// A level or a key; 0 where refused. Two structs with their cause beside the value, and no generic one,
+// since include/bridgeyarn.h declares these two.
 #[repr(C)]
 #[derive(Clone, Copy)]
 pub struct KeyAnswer {
@@ -27,12 +28,35 @@ pub struct HalfSizeAnswer {
     pub value: f32,
 }
 
-fn key_answer(number: Number) -> KeyAnswer
-    ensures { result ≡ key_answer number }
+// Document 01's number of a bad key or a bad child, and 0 where there is none.
+fn cause<T>(answer: &Result<T, BadKey>) -> u32
+    ensures { result ≡ key_cause answer.now }
 {
-    match number {
-        Number::Is(value) => KeyAnswer { cause: 0, value },
-        Number::Refused => KeyAnswer { cause: 9, value: 0 },
+    match answer {
+        Ok(_) => 0,
+        Err(BadKey) => 9,
+    }
+}
+
+impl From<Result<u64, BadKey>> for KeyAnswer {
+    ghost from_gives = { λ number answer. answer ≡ key_answer number };
+
+    fn from(number: Result<u64, BadKey>) -> KeyAnswer {
+        KeyAnswer {
+            cause: cause(&number),
+            value: number.unwrap_or(0),
+        }
+    }
+}
+
+impl From<Result<f32, BadKey>> for HalfSizeAnswer {
+    ghost from_gives = { λ length answer. answer ≡ half_size_answer length };
+
+    fn from(length: Result<f32, BadKey>) -> HalfSizeAnswer {
+        HalfSizeAnswer {
+            cause: cause(&length),
+            value: length.unwrap_or(0.0),
+        }
     }
 }
 
@@ -40,47 +64,37 @@ fn key_answer(number: Number) -> KeyAnswer
 pub fn level(key: u64) -> KeyAnswer
     ensures { result ≡ key_answer (level_of key) }
 {
-    key_answer(morton::level(key))
+    KeyAnswer::from(morton::level(key).map(u64::from))
 }
 
 // The key of the cell around this one, never below 1.
 pub fn parent(key: u64) -> KeyAnswer
     ensures { result ≡ key_answer (parent_of key) }
 {
-    key_answer(morton::parent(key))
+    KeyAnswer::from(morton::parent(key))
 }
 
 // The key of a cell within this one; refused at level 21, and for a child above 7.
 pub fn child(key: u64, which: u32) -> KeyAnswer
     ensures { result ≡ key_answer (child_of key which) }
 {
-    key_answer(morton::child(key, which))
+    KeyAnswer::from(morton::child(key, which))
 }
 
 // Half the side of the key's cell.
 pub fn half_size(key: u64) -> HalfSizeAnswer
     ensures { result ≡ half_size_answer (half_size_of key) }
 {
-    let length = morton_cells::half_size(key);
-    match length {
-        Length::Is(value) => HalfSizeAnswer { cause: 0, value },
-        Length::Refused => HalfSizeAnswer {
-            cause: 9,
-            value: 0.0,
-        },
-    }
+    HalfSizeAnswer::from(morton_cells::half_size(key))
 }
 
 // The center of the key's cell; what is lent stays as it was where refused.
 pub fn center(key: u64, center: &mut [f32; 3]) -> u32
-    ensures { (result ≡ point_cause (center_of key)) × (center.new ≡ center_left (center_of key) center.old) }
+    ensures { (result ≡ key_cause (center_of key)) × (center.new ≡ center_left (center_of key) center.old) }
 {
     let point = morton_cells::center(key);
-    match point {
-        Point::At(p) => {
-            *center = [p.x, p.y, p.z];
-            0
-        }
-        Point::Refused => 9,
+    if let Ok(Vec3 { x, y, z }) = point {
+        *center = [x, y, z];
     }
+    cause(&point)
 }

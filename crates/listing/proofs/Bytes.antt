@@ -8,25 +8,20 @@ use native.Mathlib.Omega.{arith}
 use lib.ListN.{length, take, drop}
 use lib.Seq.{take-length, take-append_seam}
 use lib.Ieee.{Float}
-use borrow.Author.Tests.{eq-eqb, ne_eqb}
-use Rattle.sample_record.specs.declared.Record.{Record}
-use Rattle.sample_record.specs.declared.Record.TheVariants.{Holds, Malformed, BadSize, BadNumbering, BadCount}
-use Rattle.sample_record.specs.Record.{cause_of, size_of, numbering_of, record_of}
-use Rattle.record_answer.specs.declared.RecordAnswer.{RecordAnswer}
-use Rattle.record_answer.specs.Record.{record_answer}
+use borrow.Author.Tests.{ne_eqb}
+use Rattle.std.specs.Prelude.{Result, Ok, Err}
+use Rattle.refusals.specs.declared.Refusal.{Refusal}
+use Rattle.sample_record.specs.declared.Header.{Header}
+use Rattle.refusals.specs.Causes.{cause_of, place_of}
+use Rattle.numbering.specs.Word.{word_of}
+use Rattle.sample_record.specs.Record.{record_of}
+use Rattle.sample_record.specs.Record as sample_record
 use Rattle.record_samples.specs.Samples.{samples_of, copied}
-use Rattle.sample_record.proofs.Accepted.{Accepted, record_of-accepted}
+use Rattle.refusals.proofs.Causes.{cause-some}
 use Rattle.listing_words.specs.Put.{Put}
 use Rattle.listing_text.specs.Lines.{refused_line}
 use Rattle.listing_words.proofs.Putting.{put_front}
 use Rattle.listing.specs.Listing.{grid_text, listing_of}
-
-holds_of : (answer : Record) → cause_of answer ≡ 0 → answer ≡ Holds (size_of answer) (numbering_of answer)
-holds_of (Holds size numbering) h = refl
-holds_of (Malformed place) h = absurd (omega (arith, h))
-holds_of BadSize h = absurd (omega (arith, h))
-holds_of BadNumbering h = absurd (omega (arith, h))
-holds_of BadCount h = absurd (omega (arith, h))
 
 pub sample_count-le : (n : ℕ) → n ≤ 7 → n * n * (n + 1) ≤ 392
 sample_count-le n h =
@@ -42,21 +37,21 @@ lent-samples bytes buffer count whole room =
     let front : take count samples ≡ samples = ap (λ (k : ℕ). take k samples) (sym whole) ∙ take-length samples in
     rw (all, front) (ap (λ (k : ℕ). take k (samples ++ drop count buffer)) (sym whole) ∙ take-append_seam samples (drop count buffer))
 
--- ---- the definition by its test
+-- a record with no cause is an accepted one
+pub holds_of : (answer : Result Header Refusal) → sample_record.cause_of answer ≡ 0
+    → (header : Header) × (answer ≡ Ok header) × (sample_record.size_of answer ≡ header.size) × (sample_record.numbering_of answer ≡ word_of header.numbering)
+holds_of (Ok header) h = (header, refl, refl, refl)
+holds_of (Err refusal) h = absurd (cause-some refusal h)
 
-module _ (bytes : List ℕ) (answer : RecordAnswer) (is : answer ≡ record_answer (record_of 7 bytes)) where
-  pub listing-refused : (answer.cause ≡ 0 → ⊥) → listing_of bytes ≡ refused_line answer.cause answer.place
-  listing-refused some = rw (is, ne_eqb (cause_of (record_of 7 bytes)) 0 (λ z. some (ap (λ (a : RecordAnswer). a.cause) is ∙ z))) refl
+-- ---- the definition by what the record is
 
-  pub listing-grid : (samples : List Float) → samples ≡ samples_of bytes → answer.cause ≡ 0
-      → listing_of bytes ≡ grid_text answer.size answer.numbering samples
-  listing-grid samples g none = rw (is, eq-eqb (cause_of (record_of 7 bytes)) 0 (sym (ap (λ (a : RecordAnswer). a.cause) is) ∙ none), g) refl
+module _ (bytes : List ℕ) where
+  pub listing-refused : (refusal : Refusal) → record_of 7 bytes ≡ Err refusal → listing_of bytes ≡ refused_line (cause_of refusal) (place_of refusal)
+  listing-refused refusal is = rw (is, ne_eqb (cause_of refusal) 0 (cause-some refusal)) refl
 
-  pub accepted-of : answer.cause ≡ 0 → Accepted 7 bytes answer.size answer.numbering
-  accepted-of none =
-      rw (is) (record_of-accepted 7 bytes (size_of (record_of 7 bytes)) (numbering_of (record_of 7 bytes))
-      (holds_of (record_of 7 bytes) (sym (ap (λ (a : RecordAnswer). a.cause) is) ∙ none)))
+  pub listing-grid : (header : Header) → record_of 7 bytes ≡ Ok header → listing_of bytes ≡ grid_text header.size (word_of header.numbering) (samples_of bytes)
+  listing-grid header is = rw is refl
 
 -- the text at the front of the program's buffer
-pub front_of : (text new piece : List ℕ) (end : ℕ) → Put text 0 piece new end → end ≤ 191622 → 191622 ≤ length text → take end new ≡ piece
-front_of text new piece end h short room = put_front h (omega (arith, h.ends))
+pub front_of : (text new piece : List ℕ) (end : ℕ) → Put text 0 piece new end → end ≤ length text → take end new ≡ piece
+front_of text new piece end h short = put_front h (omega (arith, h.ends))

@@ -3,13 +3,16 @@
 use mathlib.Core.Path.{◌≡◌, refl, sym, ap, ◌∙◌, subst}
 use mathlib.Core.Logic.{⊎_elim}
 use mathlib.Core.List.{List, ◌++◌, map}
-use Prim.Native.Nat.{ℕ, zero, suc, ◌+◌, ◌*◌, ◌/◌, ◌≤◌, ◌<◌}
-use native.Mathlib.Nat.{lt-suc_self, lt_trans}
+use Prim.Native.Nat.{ℕ, ◌+◌, ◌*◌, ◌/◌, ◌≤◌, ◌<◌}
 use native.Mathlib.Omega.{arith}
-use lib.ListN.{length, drop, replicate, length-map, get_or-append}
-use lib.Ieee.{Float, nan, binary32, of_bits}
+use lib.ListN.{length, take, drop, replicate, length-map}
+use lib.Seq.{take-append_seam}
+use lib.Ieee.{Float, binary32, of_bits}
 use borrow.Author.Tests.{lt-ltb, le-ltb}
 use Rattle.marching_cubes_tables.proofs.Tests.{lt-or-ge}
+use Rattle.numbering.specs.declared.Numbering.{Numbering}
+use Rattle.numbering.specs.declared.Numbering.TheVariants.{Crate, Joined}
+use Rattle.numbering.specs.Word.{word_of}
 use Rattle.sample_check.specs.Samples.{lowest_bad}
 use Rattle.lent_mesh.specs.Grid.{position_at, floats_of}
 use Rattle.lent_mesh.proofs.Floats.{floats_of-length}
@@ -17,60 +20,26 @@ use Rattle.outcome.specs.Outcome.{Outcome, work_room, Surface, surface_of, over,
 use Rattle.passes.proofs.Sizes.{square_le}
 use Rattle.marching_cubes.proofs.ByCause.{sample-bad, accepted, room-enough}
 use Rattle.listing_runs.specs.Runs.{lines_of, vertex_line_at, face_line_at}
+use Rattle.listing_runs.proofs.Lines.{vertex_lines-front, face_lines-front}
 use Rattle.listing_text.specs.Lines.{first_line, refused_line, mesh_text}
 use Rattle.listing.specs.Listing.{grid_text}
 use Rattle.listing.proofs.Room.{made-le, indices-le}
 
--- ---- lines of what stands at the front of a buffer
-
-lines_of-same : (count : ℕ) (f g : ℕ → List ℕ) → ((i : ℕ) → i < count → f i ≡ g i) → lines_of count f ≡ lines_of count g
-lines_of-same zero f g h = refl
-lines_of-same (suc count) f g h =
-    let before = lines_of-same count f g (λ i l. h i (lt_trans l (lt-suc_self count))) in
-    rw (before, h count (lt-suc_self count)) refl
-
-vertex_lines-front : (floats rest : List Float) (count : ℕ) → 3 * count ≤ length floats
-    → lines_of count (vertex_line_at (floats ++ rest)) ≡ lines_of count (vertex_line_at floats)
-vertex_lines-front floats rest count h =
-    lines_of-same count (vertex_line_at (floats ++ rest)) (vertex_line_at floats) (λ i l.
-    rw (
-      get_or-append floats rest nan (3 * i) (omega arith),
-      get_or-append floats rest nan (3 * i + 1) (omega arith),
-      get_or-append floats rest nan (3 * i + 2) (omega arith),
-    ) refl)
-
-face_lines-front : (indices rest : List ℕ) (count : ℕ) → 3 * count ≤ length indices
-    → lines_of count (face_line_at (indices ++ rest)) ≡ lines_of count (face_line_at indices)
-face_lines-front indices rest count h =
-    lines_of-same count (face_line_at (indices ++ rest)) (face_line_at indices) (λ i l.
-    rw (
-      get_or-append indices rest 0 (3 * i) (omega arith),
-      get_or-append indices rest 0 (3 * i + 1) (omega arith),
-      get_or-append indices rest 0 (3 * i + 2) (omega arith),
-    ) refl)
-
-third : (k : ℕ) → 3 * k / 3 ≡ k
-third k = omega arith
-
-threes-le : (k : ℕ) → 3 * (k / 3) ≤ k
-threes-le k = omega arith
-
+-- the lines of a mesh are those of longer buffers that it stands at the front of
 mesh_text-front : (size numbering made : ℕ) (floats more : List Float) (indices others : List ℕ) → length floats ≡ 3 * made
     → mesh_text size numbering floats indices
     ≡ first_line size numbering made (length indices) ++ lines_of made (vertex_line_at (floats ++ more)) ++ lines_of (length indices / 3) (face_line_at (indices ++ others))
 mesh_text-front size numbering made floats more indices others e =
-    let count : length floats / 3 ≡ made = ap (λ (k : ℕ). k / 3) e ∙ third made in
-    rw (count, vertex_lines-front floats more made (omega arith), face_lines-front indices others (length indices / 3) (threes-le (length indices))) refl
+    let count : length floats / 3 ≡ made = omega arith in
+    rw (count, vertex_lines-front floats more made (omega arith), face_lines-front indices others (length indices / 3) (omega arith)) refl
 
--- ---- the answer
-
--- what an outcome is to the text
+-- what an outcome is to the text: the mesh stands at the front of its buffers
 pub record Lists (n numbering : ℕ) (samples : List Float) (o : Outcome) : Type 0 where
-  pub made : o.answer.vertices ≡ length (surface_of n numbering samples).made
-  pub written : o.answer.indices ≡ length (surface_of n numbering samples).indices
-  pub text : grid_text n numbering samples
-      ≡ first_line n numbering o.answer.vertices o.answer.indices ++ lines_of o.answer.vertices (vertex_line_at o.vertices)
-      ++ lines_of (o.answer.indices / 3) (face_line_at o.indices)
+  pub made : length (take (3 * o.answer.vertices) o.vertices) ≡ 3 * o.answer.vertices
+  pub written : length (take o.answer.indices o.indices) ≡ o.answer.indices
+  pub fewer : o.answer.vertices ≤ o.answer.indices
+  pub most : o.answer.indices ≤ 3780
+  pub text : grid_text n numbering samples ≡ mesh_text n numbering (take (3 * o.answer.vertices) o.vertices) (take o.answer.indices o.indices)
 
 module _ (n numbering : ℕ) (samples : List Float) (work : List ℕ) (vertices : List Float) (indices : List ℕ)
     (least : 2 ≤ n) (most : n ≤ 7) (known : numbering ≤ 1) (whole : length samples ≡ n * n * (n + 1))
@@ -114,33 +83,45 @@ module _ (n numbering : ℕ) (samples : List Float) (work : List ℕ) (vertices 
         (λ (h : lowest_bad samples < length samples).
         let cause : o.answer.cause ≡ 5 = ap (λ (p : Outcome). p.answer.cause) (bad h) in absurd (omega (arith, none, cause)))
         (λ (h : length samples ≤ lowest_bad samples).
+        let vertices-front : take (3 * length mesh.made) (over floats vertices) ≡ floats =
+        rw (← floats-length) (take-append_seam floats (drop (length floats) vertices)) in
+        let indices-front : take (length mesh.indices) (over mesh.indices indices) ≡ mesh.indices =
+        take-append_seam mesh.indices (drop (length mesh.indices) indices) in
+        let most-indices = indices-le n numbering samples most in
         subst (Lists n numbering samples) (sym (good h))
         (record {
-          made = refl;
-          written = refl;
-          text = rw (le-ltb (lowest_bad samples) (length samples) h)
-              (mesh_text-front n numbering (length mesh.made) floats (drop (length floats) vertices) mesh.indices (drop (length mesh.indices) indices) floats-length);
+          made = ap length vertices-front ∙ floats-length;
+          written = ap length indices-front;
+          fewer = made-le n numbering samples;
+          most = most-indices;
+          text = rw (le-ltb (lowest_bad samples) (length samples) h, vertices-front, indices-front) refl;
         }))
         (lt-or-ge (lowest_bad samples) (length samples))
 
 -- ---- the program's own buffers
 
-module _ (n numbering : ℕ) (samples : List Float) (least : 2 ≤ n) (most : n ≤ 7) (known : numbering ≤ 1) (whole : length samples ≡ n * n * (n + 1))
-    (o : Outcome) (e : o ≡ outcome n numbering samples (replicate 434 0) (replicate 11340 (of_bits binary32 0)) (replicate 3780 0)) where
+word_of-le : (numbering : Numbering) → word_of numbering ≤ 1
+word_of-le Crate = omega arith
+word_of-le Joined = omega arith
+
+module _ (n : ℕ) (numbering : Numbering) (samples : List Float) (least : 2 ≤ n) (most : n ≤ 7) (whole : length samples ≡ n * n * (n + 1))
+    (word : ℕ) (is : word ≡ word_of numbering)
+    (o : Outcome) (e : o ≡ outcome n word samples (replicate 434 0) (replicate 11340 (of_bits binary32 0)) (replicate 3780 0)) where
   work-enough : work_room n ≤ 434
   work-enough = let square = square_le n 7 most in omega arith
 
-  pub own-refused : (o.answer.cause ≡ 0 → ⊥) → grid_text n numbering samples ≡ refused_line o.answer.cause o.answer.place
-  own-refused =
-      refused-text n numbering samples (replicate 434 0) (replicate 11340 (of_bits binary32 0)) (replicate 3780 0) least most known whole work-enough (omega arith) (omega arith) o e
+  known : o ≡ outcome n (word_of numbering) samples (replicate 434 0) (replicate 11340 (of_bits binary32 0)) (replicate 3780 0)
+  known = rw (← is) e
 
-  pub own-mesh : o.answer.cause ≡ 0 → Lists n numbering samples o
+  pub own-refused : (o.answer.cause ≡ 0 → ⊥) → grid_text n (word_of numbering) samples ≡ refused_line o.answer.cause o.answer.place
+  own-refused =
+      refused-text n (word_of numbering) samples (replicate 434 0) (replicate 11340 (of_bits binary32 0)) (replicate 3780 0) least most (word_of-le numbering) whole work-enough
+      (omega arith) (omega arith) o known
+
+  pub own-mesh : o.answer.cause ≡ 0 → Lists n (word_of numbering) samples o
   own-mesh =
-      mesh-text n numbering samples (replicate 434 0) (replicate 11340 (of_bits binary32 0)) (replicate 3780 0) least most known whole work-enough (omega arith) (omega arith) o e
+      mesh-text n (word_of numbering) samples (replicate 434 0) (replicate 11340 (of_bits binary32 0)) (replicate 3780 0) least most (word_of-le numbering) whole work-enough
+      (omega arith) (omega arith) o known
 
   pub own_room : o.answer.cause ≡ 0 → (o.answer.vertices ≤ o.answer.indices) × (o.answer.indices ≤ 3780)
-  own_room none =
-      let l = own-mesh none in
-      let m = made-le n numbering samples in
-      let i = indices-le n numbering samples most in
-      (omega (arith, l.made, l.written, m), omega (arith, l.written, i))
+  own_room none = let mesh = own-mesh none in (mesh.fewer, mesh.most)

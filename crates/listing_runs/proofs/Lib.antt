@@ -1,1 +1,2 @@
-mod Runs
+pub mod Runs
+pub mod Lines

@@ -1,78 +1,89 @@
-// The two runs of lines that a mesh has in document 01's listing, put into lent bytes: a line for each
-// vertex and a line for each triangle.
+// The two runs of lines that a mesh has in document 01's listing, put into lent bytes: a line for each vertex and
+// a line for each triangle. Both are lines of three words.
 
 #![tactic(auto)]
 
-ghost use Rattle.std.specs.Prelude.{◌≡◌, ◌+◌, ◌*◌, ◌≤◌, length};
-ghost use Rattle.listing_words.specs.Put.{Put};
-ghost use Rattle.listing_runs.specs.Runs.{vertex_line, face_line, lines_of, vertex_line_at, face_line_at};
+ghost use Rattle.std.specs.Prelude.{ℕ, List, ◌≡◌, ◌+◌, ◌*◌, ◌/◌, ◌≤◌, length};
+ghost use Rattle.listing_words.specs.Put.{HasRoom, Puts};
+ghost use Rattle.listing_words.specs.Digits.{number_word, float_word};
+ghost use Rattle.listing_runs.specs.Runs.{line, lines_of, line_at};
+ghost use Rattle.std.specs.Float.{nan};
 
-use listing_words::{put_bytes, put_float, put_number};
+use listing_words::Text;
 
-// Three coordinates by their bits.
-fn put_vertex(text: &mut [u8], at: usize, x: f32, y: f32, z: f32) -> usize
-    requires { at + 29 ≤ length text.old }
-    ensures put { Put text.old at (vertex_line x y z) text.new result }
-    ensures value { result ≡ at + 29 }
-{
-    let first = put_bytes(text, at, b"v");
-    let second = put_float(text, first, x);
-    let third = put_float(text, second, y);
-    let end = put_float(text, third, z);
-    put_bytes(text, end, b"\n")
+// A word of a line: a float of a vertex's line, or a number of a triangle's.
+pub trait Word: Copy {
+    // How the line begins.
+    const LETTER: u8;
+
+    ghost LETTER: { ℕ };
+
+    // What stands for it in the text, and how many bytes that has at most.
+    ghost word: { Self → List ℕ };
+
+    ghost most: { ℕ };
+
+    // What a line has in the place of a word that isn't there.
+    ghost missing: { Self };
+
+    fn put(self, text: &mut Text<'_>)
+        requires { HasRoom text.old most }
+        ensures puts { Puts text.old (word self) text.new }
+        ensures upper_bound { text.new.end ≤ text.old.end + most };
 }
 
-// Three vertex numbers, counted from 0.
-fn put_face(text: &mut [u8], at: usize, a: u32, b: u32, c: u32) -> usize
-    requires { at + 65 ≤ length text.old }
-    ensures put { Put text.old at (face_line a b c) text.new result }
-    ensures upper_bound { result ≤ at + 65 }
-{
-    let first = put_bytes(text, at, b"f");
-    let second = put_number(text, first, a as u64);
-    let third = put_number(text, second, b as u64);
-    let end = put_number(text, third, c as u64);
-    put_bytes(text, end, b"\n")
-}
+impl Word for f32 {
+    const LETTER: u8 = b'v';
 
-// A line for each vertex among the first `count`.
-pub fn put_vertices(text: &mut [u8], at: usize, vertices: &[f32], count: usize) -> usize
-    requires { (3 * count ≤ length vertices.now) × (at + 29 * count ≤ length text.old) }
-    ensures put { Put text.old at (lines_of count (vertex_line_at vertices.now)) text.new result }
-    ensures value { result ≡ at + 29 * count }
-{
-    let mut next = at;
-    let mut i = 0;
-    while i < count {
-        next = put_vertex(
-            text,
-            next,
-            vertices[3 * i],
-            vertices[3 * i + 1],
-            vertices[3 * i + 2],
-        );
-        i += 1;
+    ghost LETTER = { 118 };
+
+    ghost word = { float_word };
+
+    ghost most = { 9 };
+
+    ghost missing = { nan };
+
+    fn put(self, text: &mut Text<'_>) {
+        text.put_float(self);
     }
-    next
 }
 
-// A line for each triangle among the first `count`.
-pub fn put_faces(text: &mut [u8], at: usize, indices: &[u32], count: usize) -> usize
-    requires { (3 * count ≤ length indices.now) × (at + 65 * count ≤ length text.old) }
-    ensures put { Put text.old at (lines_of count (face_line_at indices.now)) text.new result }
-    ensures upper_bound { result ≤ at + 65 * count }
-{
-    let mut next = at;
-    let mut i = 0;
-    while i < count {
-        next = put_face(
-            text,
-            next,
-            indices[3 * i],
-            indices[3 * i + 1],
-            indices[3 * i + 2],
-        );
-        i += 1;
+impl Word for u32 {
+    const LETTER: u8 = b'f';
+
+    ghost LETTER = { 102 };
+
+    ghost word = { number_word };
+
+    ghost most = { 21 };
+
+    ghost missing = { 0 };
+
+    fn put(self, text: &mut Text<'_>) {
+        text.put_number(self as u64);
     }
-    next
+}
+
+// A line of three words.
+fn put_line<W: Word>(text: &mut Text<'_>, a: W, b: W, c: W)
+    requires { HasRoom text.old (2 + 3 * W.most) }
+    ensures puts { Puts text.old (line W.LETTER W.word a b c) text.new }
+    ensures upper_bound { text.new.end ≤ text.old.end + (2 + 3 * W.most) }
+{
+    text.put_bytes(&[W::LETTER]);
+    a.put(text);
+    b.put(text);
+    c.put(text);
+    text.put_bytes(b"\n");
+}
+
+// A line for each three words, of which the first stand in the first line.
+pub fn put_lines<W: Word>(text: &mut Text<'_>, words: &[W])
+    requires { HasRoom text.old ((2 + 3 * W.most) * (length words.now / 3)) }
+    ensures puts { Puts text.old (lines_of (length words.now / 3) (line_at W.LETTER W.word W.missing words.now)) text.new }
+    ensures upper_bound { text.new.end ≤ text.old.end + (2 + 3 * W.most) * (length words.now / 3) }
+{
+    for three in words.chunks_exact(3) {
+        put_line(text, three[0], three[1], three[2]);
+    }
 }

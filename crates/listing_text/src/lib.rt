@@ -3,72 +3,73 @@
 
 #![tactic(auto)]
 
-ghost use Rattle.std.specs.Prelude.{◌+◌, ◌≤◌, length};
-ghost use Rattle.listing_words.specs.Put.{Put};
+ghost use Rattle.std.specs.Prelude.{◌+◌, ◌++◌, ◌≤◌, length};
+ghost use Rattle.listing_words.specs.Put.{HasRoom, Puts};
+ghost use Rattle.listing_words.specs.Digits.{number_word};
+ghost use Rattle.listing_runs.specs.Runs.{newline};
 ghost use Rattle.listing_text.specs.Lines.{numbering_words, size_words, count_words, first_line, refused_line};
 
-use listing_words::{put_bytes, put_number};
+use listing_words::Text;
 
-// A refusal's only line.
-pub fn put_refused(text: &mut [u8], at: usize, cause: u32, place: u64) -> usize
-    requires { at + 53 ≤ length text.old }
-    ensures put { Put text.old at (refused_line cause place) text.new result }
-    ensures upper_bound { result ≤ at + 53 }
+// Two numbers, each after its name, and the end of the line.
+fn put_pair(text: &mut Text<'_>, first: &[u8], m: u64, second: &[u8], n: u64)
+    requires { HasRoom text.old (length first.now + length second.now + 43) }
+    ensures puts { Puts text.old (first.now ++ number_word m ++ second.now ++ number_word n ++ newline) text.new }
+    ensures upper_bound { text.new.end ≤ text.old.end + (length first.now + length second.now + 43) }
 {
-    let first = put_bytes(text, at, b"refused");
-    let second = put_number(text, first, cause as u64);
-    let third = put_bytes(text, second, b" at");
-    let end = put_number(text, third, place);
-    put_bytes(text, end, b"\n")
+    text.put_bytes(first);
+    text.put_number(m);
+    text.put_bytes(second);
+    text.put_number(n);
+    text.put_bytes(b"\n");
 }
 
-fn put_numbering(text: &mut [u8], at: usize, numbering: u32) -> usize
-    requires { at + 17 ≤ length text.old }
-    ensures put { Put text.old at (numbering_words numbering) text.new result }
-    ensures upper_bound { result ≤ at + 17 }
+// A refusal's only line. Two numbers and no `Refusal`: what it takes may not narrow, and `extract` answers numbers.
+pub fn put_refused(text: &mut Text<'_>, cause: u32, place: u64)
+    requires { HasRoom text.old 53 }
+    ensures puts { Puts text.old (refused_line cause place) text.new }
+    ensures upper_bound { text.new.end ≤ text.old.end + 53 }
+{
+    put_pair(text, b"refused", cause as u64, b" at", place);
+}
+
+// A word and no `Numbering`: what `put_first` takes may not narrow, and each word but 0 is listed as joined.
+fn put_numbering(text: &mut Text<'_>, numbering: u32)
+    requires { HasRoom text.old 17 }
+    ensures puts { Puts text.old (numbering_words numbering) text.new }
+    ensures upper_bound { text.new.end ≤ text.old.end + 17 }
 {
     if numbering == 0 {
-        put_bytes(text, at, b" numbering crate")
+        text.put_bytes(b" numbering crate");
     } else {
-        put_bytes(text, at, b" numbering joined")
+        text.put_bytes(b" numbering joined");
     }
 }
 
-fn put_size(text: &mut [u8], at: usize, size: u32, numbering: u32) -> usize
-    requires { at + 42 ≤ length text.old }
-    ensures put { Put text.old at (size_words size numbering) text.new result }
-    ensures upper_bound { result ≤ at + 42 }
+fn put_size(text: &mut Text<'_>, size: u32, numbering: u32)
+    requires { HasRoom text.old 42 }
+    ensures puts { Puts text.old (size_words size numbering) text.new }
+    ensures upper_bound { text.new.end ≤ text.old.end + 42 }
 {
-    let first = put_bytes(text, at, b"size");
-    let second = put_number(text, first, size as u64);
-    put_numbering(text, second, numbering)
+    text.put_bytes(b"size");
+    text.put_number(size as u64);
+    put_numbering(text, numbering);
 }
 
-fn put_counts(text: &mut [u8], at: usize, vertices: u64, indices: u64) -> usize
-    requires { at + 60 ≤ length text.old }
-    ensures put { Put text.old at (count_words vertices indices) text.new result }
-    ensures upper_bound { result ≤ at + 60 }
+fn put_counts(text: &mut Text<'_>, vertices: u64, indices: u64)
+    requires { HasRoom text.old 60 }
+    ensures puts { Puts text.old (count_words vertices indices) text.new }
+    ensures upper_bound { text.new.end ≤ text.old.end + 60 }
 {
-    let first = put_bytes(text, at, b" vertices");
-    let second = put_number(text, first, vertices);
-    let third = put_bytes(text, second, b" indices");
-    let end = put_number(text, third, indices);
-    put_bytes(text, end, b"\n")
+    put_pair(text, b" vertices", vertices, b" indices", indices);
 }
 
 // The line before a mesh's lines.
-pub fn put_first(
-    text: &mut [u8],
-    at: usize,
-    size: u32,
-    numbering: u32,
-    vertices: u64,
-    indices: u64,
-) -> usize
-    requires { at + 102 ≤ length text.old }
-    ensures put { Put text.old at (first_line size numbering vertices indices) text.new result }
-    ensures upper_bound { result ≤ at + 102 }
+pub fn put_first(text: &mut Text<'_>, size: u32, numbering: u32, vertices: u64, indices: u64)
+    requires { HasRoom text.old 102 }
+    ensures puts { Puts text.old (first_line size numbering vertices indices) text.new }
+    ensures upper_bound { text.new.end ≤ text.old.end + 102 }
 {
-    let next = put_size(text, at, size, numbering);
-    put_counts(text, next, vertices, indices)
+    put_size(text, size, numbering);
+    put_counts(text, vertices, indices);
 }

@@ -1,12 +1,11 @@
 -- Words and their bytes, one way and back: what is written is read again, and bytes in fours are the bytes of their words. The records cite these.
 use mathlib.Core.Path.{◌≡◌, refl, sym, ap, ap₂, ◌∙◌}
 use mathlib.Core.List.{List, [], ◌∷◌, ◌++◌, append_assoc}
-use Prim.Native.Nat.{ℕ, zero, suc, ◌+◌, ◌*◌, ◌/◌, ◌%◌, ◌≤◌, ◌<◌}
+use Prim.Native.Nat.{ℕ, zero, suc, ◌+◌, ◌*◌, ◌/◌, ◌%◌, ◌<◌}
 use native.Mathlib.Nat.{add-zero, add-suc, suc-add}
-use native.Mathlib.Numerals.{add-one, add-two, add-three}
 use native.Mathlib.Omega.{arith}
 use lib.ListN.{length, get_or, take, drop, set, length-take, length-drop}
-use lib.Seq.{sets, lt-length-set, get_or-take, get_or-drop}
+use lib.Seq.{sets, get_or-take, get_or-drop}
 use Rattle.little_endian.specs.Words.{word, word_at, words, word_bytes, bytes_of}
 
 -- every number of a list is below a bound
@@ -123,29 +122,3 @@ pub sets-append : (l : List ℕ) (i : ℕ) (p q : List ℕ) → sets l i (p ++ q
 sets-append l i [] q = ap (λ (k : ℕ). sets l k q) (sym (add-zero i))
 sets-append l i (a ∷ p) q =
     sets-append (set l i a) (suc i) p q ∙ ap (λ (k : ℕ). sets (sets l i (a ∷ p)) k q) (suc-add i (length p) ∙ sym (add-suc i (length p)))
-
--- four stores are the bytes of a word, and each is within
-module _ (l : List ℕ) (at w : ℕ) where
-  abbrev pub first-put : List ℕ
-  first-put = set l at (w % 256)
-
-  abbrev pub second-put : List ℕ
-  second-put = set first-put (at + 1) (w / 256 % 256)
-
-  abbrev pub third-put : List ℕ
-  third-put = set second-put (at + 2) (w / 65536 % 256)
-
-  pub put_four : set third-put (at + 3) (w / 16777216 % 256) ≡ sets l at (word_bytes w)
-  unfolding word_bytes
-  put_four = rw (add-one at, add-two at, add-three at)
-
-  module _ (room : at + 4 ≤ length l) where
-    pub second-within : at + 1 < length first-put
-    second-within = lt-length-set l at (w % 256) (omega arith)
-
-    pub third-within : at + 2 < length second-put
-    third-within = lt-length-set first-put (at + 1) (w / 256 % 256) (lt-length-set l at (w % 256) (omega arith))
-
-    pub fourth-within : at + 3 < length third-put
-    fourth-within =
-        lt-length-set second-put (at + 2) (w / 65536 % 256) (lt-length-set first-put (at + 1) (w / 256 % 256) (lt-length-set l at (w % 256) (omega arith)))

@@ -1,5 +1,3 @@
 pub mod Words
 pub mod Bytes
 pub mod Runs
-pub mod NanBits
-pub mod NotANumber

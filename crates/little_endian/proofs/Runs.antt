@@ -1,7 +1,7 @@
 -- Runs of words out of bytes: how many there are, and what each is. The records and the runs that are copied cite these.
-use mathlib.Core.Path.{◌≡◌, refl, ◌∙◌}
-use mathlib.Core.List.{List, [], ◌∷◌, map}
-use Prim.Native.Nat.{ℕ, zero, suc, ◌+◌, ◌*◌, ◌≤◌, ◌<◌}
+use mathlib.Core.Path.{◌≡◌, ◌∙◌}
+use mathlib.Core.List.{List}
+use Prim.Native.Nat.{ℕ, ◌+◌, ◌*◌, ◌≤◌, ◌<◌}
 use native.Mathlib.Omega.{arith}
 use lib.ListN.{length, get_or, drop, length-take, length-drop}
 use lib.Seq.{get_or-take}
@@ -17,8 +17,3 @@ module _ (bytes : List ℕ) (at count : ℕ) (within : at + 4 * count ≤ length
 
   pub words_from-at : (i : ℕ) → i < count → get_or (words_from bytes at count) i 0 ≡ word_at bytes (at + 4 * i)
   words_from-at i h = let all = words-enough in get_or-take count (words (drop at bytes)) i 0 h ∙ words-from bytes at i (omega arith)
-
-pub get_or-map-at : {A B : Type 0} (f : A → B) (l : List A) (i : ℕ) (d : A) (e : B) → i < length l → get_or (map f l) i e ≡ f (get_or l i d)
-get_or-map-at f [] i d e h = absurd (omega arith)
-get_or-map-at f (x ∷ l) zero d e h = refl
-get_or-map-at f (x ∷ l) (suc i) d e h = get_or-map-at f l i d e (omega arith)

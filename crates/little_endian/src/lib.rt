@@ -3,25 +3,20 @@
 
 #![tactic(auto)]
 
-ghost use Rattle.std.specs.Prelude.{◌≡◌, ◌+◌, ◌≤◌, length};
+ghost use Rattle.std.specs.Prelude.{◌≡◌, ℕ, ◌+◌, ◌≤◌, length};
 ghost use Rattle.std.proofs.lemmas.List.Edits.{sets};
 ghost use Rattle.std.specs.Float.{binary32};
 ghost use Rattle.std.specs.Float.Ieee.{of_bits, to_bits};
-ghost use Rattle.little_endian.specs.Words.{word, word_at, word_bytes};
+ghost use Rattle.little_endian.specs.Words.{word_at, word_bytes};
 
-// The u32 of four bytes, the lowest first.
-fn word(a: u8, b: u8, c: u8, d: u8) -> u32
-    ensures { result ≡ word a b c d }
-{
-    a as u32 + 256 * (b as u32 + 256 * (c as u32 + 256 * (d as u32)))
-}
+use std::num::{f32_from_bits_with_nan, f32_to_bits_with_nan};
 
 // The u32 that begins at a byte place.
 pub fn word_at(bytes: &[u8], at: usize) -> u32
     requires { at + 4 ≤ length bytes.now }
     ensures { result ≡ word_at bytes.now at }
 {
-    word(bytes[at], bytes[at + 1], bytes[at + 2], bytes[at + 3])
+    u32::from_le_bytes([bytes[at], bytes[at + 1], bytes[at + 2], bytes[at + 3]])
 }
 
 // The four bytes of a u32 from a byte place on.
@@ -29,27 +24,60 @@ pub fn put_word(bytes: &mut [u8], at: usize, value: u32)
     requires { at + 4 ≤ length bytes.old }
     ensures { bytes.new ≡ sets bytes.old at (word_bytes value) }
 {
-    bytes[at] = (value % 256) as u8;
-    bytes[at + 1] = (value / 256 % 256) as u8;
-    bytes[at + 2] = (value / 65536 % 256) as u8;
-    bytes[at + 3] = (value / 16777216 % 256) as u8;
+    bytes[at..at + 4].copy_from_slice(&value.to_le_bytes());
 }
 
-// The float with these bits. A NaN's bits give a NaN, and not always the same bits: the language
-// makes no float of them.
+// The float with these bits. A NaN's bits give a NaN, and not always the same bits.
 pub fn float_of(bits: u32) -> f32
     ensures { result ≡ of_bits binary32 bits }
 {
-    if bits & 0x7FFF_FFFF > 0x7F80_0000 {
-        0.0 / 0.0
-    } else {
-        f32::from_bits(bits)
-    }
+    f32_from_bits_with_nan(bits)
 }
 
-// The bits of a float. The language gives none for a NaN; the pattern here is the model's.
+// The bits of a float. A NaN has the model's pattern.
 pub fn bits_of(x: f32) -> u32
     ensures { result ≡ to_bits binary32 x }
 {
-    if x == x { f32::to_bits(x) } else { 0x7FC0_0000 }
+    f32_to_bits_with_nan(x)
+}
+
+// A value that stands in a record as the four bytes of a word: a u32 as it is, an f32 by its bits.
+pub trait Word: Copy {
+    ghost from_word: { ℕ → Self };
+
+    ghost to_word: { Self → ℕ };
+
+    fn from_word(word: u32) -> Self
+        ensures { result ≡ from_word word };
+
+    fn to_word(self) -> u32
+        ensures { result ≡ to_word self };
+}
+
+impl Word for u32 {
+    ghost from_word = { λ word. word };
+
+    ghost to_word = { λ word. word };
+
+    fn from_word(word: u32) -> u32 {
+        word
+    }
+
+    fn to_word(self) -> u32 {
+        self
+    }
+}
+
+impl Word for f32 {
+    ghost from_word = { of_bits binary32 };
+
+    ghost to_word = { to_bits binary32 };
+
+    fn from_word(word: u32) -> f32 {
+        float_of(word)
+    }
+
+    fn to_word(self) -> u32 {
+        bits_of(self)
+    }
 }

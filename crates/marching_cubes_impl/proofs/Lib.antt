@@ -1,4 +1,5 @@
 pub mod Signs
 pub mod Row
 pub mod Limit
+pub mod Constants
 mod Cases

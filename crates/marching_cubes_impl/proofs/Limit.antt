@@ -7,7 +7,7 @@ use native.Mathlib.Omega.{arith}
 use mathlib.Core.Bool.{Bool, true, false, ◌&&◌, ◌||◌, cond}
 use lib.IntN.{ℤ, pos}
 use lib.Dec.{T, leb, ltb, eqb, ltb→lt, lt→ltb, leb→le, le→leb, eqb→eq, eqb_refl, lit<}
-use lib.Ieee.{Float, nan, inf, fin, up, down, le, neg}
+use lib.Ieee.{Float, nan, inf, fin, binary32, up, down, le, neg, of_bits}
 use lib.Ieee.Fits.{down_pos}
 use Rattle.marching_cubes_impl.specs.Sample.{good}
 
@@ -74,3 +74,12 @@ good-comparisons (fin false m e) =
     cond-self : (b : Bool) → cond b true false ≡ b
     cond-self true = refl
     cond-self false = refl
+
+-- the code's two comparisons, with the limit by its bits
+pub good_in_range : (x : Float) → good x ≡ (le x (of_bits binary32 0x7e80_0000) && le (neg (of_bits binary32 0x7e80_0000)) x)
+unfolding of_bits
+good_in_range x = sym (both (le x limit) (le (neg limit) x) ∙ good-comparisons x)
+  where
+    both : (a b : Bool) → (a && b) ≡ cond a b false
+    both true b = refl
+    both false b = refl

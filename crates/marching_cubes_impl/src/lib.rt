@@ -25,15 +25,16 @@ pub fn sign_byte(values: [f32; 8]) -> u8
     ensures { result ≡ sign_byte values }
 {
     let mut signs: u8 = 0;
-    for i in 0..8 {
-        if values[i] <= 0.0 {
-            signs = signs | (1 << i);
+    for (i, value) in values.iter().enumerate() {
+        if *value <= 0.0 {
+            signs |= 1 << i;
         }
     }
     signs
 }
 
-// The row of a sign byte in the lent table, read in threes and left at the first negative entry.
+// The row of a sign byte in the lent table, read in threes and left at the first negative entry. Document 01 names this
+// form, a nested loop left by its label, so it is no iterator chain.
 pub fn row_edges(table: &[i8; 4096], signs: u8) -> [i8; 16]
     requires { table.now ≡ triangle_table }
     ensures { result ≡ padded 16 (row_edges signs) }

@@ -10,6 +10,7 @@ pub struct Vertex {
     pub z: f32,
 }
 
+#[tactic(auto, using(crate::proofs::Constants::one_bits), unfolding(crate::specs::Vertex::between))]
 pub fn interpolate_axis(u: f32, v: f32, t: f32) -> f32
     ensures { result ≡ between u v t }
 {

@@ -36,6 +36,7 @@ const EDGE_CONNECTION: [[usize; 2]; 12] = [
 ];
 
 // The offset, 0 or 1, of a corner along an axis.
+#[tactic(auto, unfolding(crate::specs::Tables::corners))]
 pub fn corner(c: usize, axis: usize) -> usize
     requires { (c < 8) × (axis < 3) }
     ensures { result ≡ corner_offset c axis }
@@ -44,6 +45,7 @@ pub fn corner(c: usize, axis: usize) -> usize
 }
 
 // The corner at an end of an edge.
+#[tactic(auto, unfolding(crate::specs::Tables::edge_connection))]
 pub fn edge_end(e: usize, end: usize) -> usize
     requires { (e < 12) × (end < 2) }
     ensures { result ≡ edge_end e end }
@@ -52,13 +54,15 @@ pub fn edge_end(e: usize, end: usize) -> usize
 }
 
 // The triangle table as a value, to be made once and lent.
+#[tactic(auto, unfolding(crate::specs::Tables::triangle_table))]
 pub fn triangle_table() -> [i8; 4096]
     ensures { result ≡ triangle_table }
 {
     triangle_connection::TRIANGLE_CONNECTION
 }
 
-// Entry k of the row of the sign byte s, in the lent table.
+// Entry k of the row of the sign byte s, in the lent table. The table stays a bare array, and no struct that keeps what
+// it holds: the public `row_edges` of marching_cubes_impl takes one, and its argument may not become narrower.
 pub fn triangle(table: &[i8; 4096], s: usize, k: usize) -> i8
     requires { (table.now ≡ triangle_table) × ((s < 256) × (k < 16)) }
     ensures { result ≡ get_or (row s) k (pos 0) }

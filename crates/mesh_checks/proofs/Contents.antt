@@ -1,15 +1,19 @@
--- The mesh in a record of the right length, and its refusals with the counts as the code reads them. `contents_in` cites these.
+-- The mesh in a record of the right length, and what the searches among its bytes find. `check_contents`, the reader and the round trips cite these.
 use mathlib.Core.Path.{◌≡◌, sym, ap, ap₂, ◌∙◌}
-use mathlib.Core.List.{List}
-use Prim.Native.Nat.{ℕ, ◌+◌, ◌*◌, ◌/◌, ◌≤◌, ◌<◌}
+use mathlib.Core.List.{List, map}
+use Prim.Native.Nat.{ℕ, ◌+◌, ◌-◌, ◌*◌, ◌/◌, ◌≤◌}
 use native.Mathlib.Omega.{arith}
-use lib.ListN.{length}
-use Rattle.little_endian.specs.Words.{word_at, words_from}
+use lib.ListN.{length, take, drop, length-drop}
+use lib.Seq.{take_all, drop-drop}
+use Rattle.std.proofs.Common.{w32}
+use Rattle.std.specs.Int.{from_le_bytes}
+use Rattle.std.specs.Simd.{first_chunks}
+use Rattle.little_endian.specs.Words.{word_at, words}
+use Rattle.little_endian.proofs.Words.{words-length}
 use Rattle.little_endian.proofs.Runs.{words_from-length}
-use Rattle.mesh_record.specs.Mesh.{vertex_count, finite, below}
-use Rattle.mesh_record.specs.Refusals.{none, malformed, lowest_bad, contents}
-use Rattle.mesh_record.proofs.Contents.{contents-coordinate, contents-index, contents-passed}
+use Rattle.mesh_record.specs.Mesh.{vertex_count}
 use Rattle.mesh_checks.specs.Reading.{mesh_in}
+use Rattle.mesh_checks.proofs.Chunks.{chunk-words, words-take}
 
 third : (k : ℕ) → 3 * k / 3 ≡ k
 third k = omega arith
@@ -26,31 +30,29 @@ module _ (bytes : List ℕ) (whole : length bytes ≡ 28 + 12 * word_at bytes 12
   pub mesh_in-vertices : vertex_count (mesh_in bytes) ≡ word_at bytes 12
   mesh_in-vertices = ap (λ (k : ℕ). k / 3) coordinates-length ∙ third (word_at bytes 12)
 
-  -- the refusals with the counts as the code reads them
-  module _ (vertices coordinate : ℕ) (hv : vertices ≡ word_at bytes 12) (c : coordinate ≡ lowest_bad finite (words_from bytes 28 (3 * vertices))) where
-    found : coordinate ≡ lowest_bad finite (mesh_in bytes).coordinates
+  -- the words of the arrays of four that the bytes of a part are read as
+  module _ (part : List ℕ) (chunks : List (List ℕ)) (are : chunks ≡ first_chunks 4 (length part / 4) part) where
+    part-words : map (from_le_bytes w32) chunks ≡ words part
+    part-words =
+        ap (map (from_le_bytes w32)) are ∙ chunk-words (length part / 4) part (omega arith)
+        ∙ take_all (length part / 4) (words part) (omega (arith, words-length part))
+
+    -- what lies after the header, as the code slices it
+    after-header : take (length bytes - 28) (drop 28 bytes) ≡ drop 28 bytes
+    after-header = take_all (length bytes - 28) (drop 28 bytes) (omega (arith, length-drop 28 bytes))
+
+    pub coordinates-words : (vertices : ℕ) → vertices ≡ word_at bytes 12 → part ≡ take (12 * vertices) (take (length bytes - 28) (drop 28 bytes))
+        → map (from_le_bytes w32) chunks ≡ (mesh_in bytes).coordinates
     unfolding mesh_in
-    found = c ∙ ap (λ (v : ℕ). lowest_bad finite (words_from bytes 28 (3 * v))) hv
+    coordinates-words vertices is front =
+        let count : 12 * vertices ≡ 4 * (3 * word_at bytes 12) = omega arith in
+        part-words ∙ ap words (front ∙ ap₂ (λ (k : ℕ) (l : List ℕ). take k l) count after-header) ∙ words-take (3 * word_at bytes 12) (drop 28 bytes)
 
-    pub contents_in-coordinate : coordinate < 3 * vertices → malformed (28 + 4 * coordinate) ≡ contents 28 (mesh_in bytes)
-    contents_in-coordinate h = contents-coordinate 28 (mesh_in bytes) coordinate 0 found (omega (arith, h, hv, coordinates-length))
-
-    module _ (count index : ℕ) (hk : count ≡ word_at bytes 20) (finite-all : 3 * vertices ≤ coordinate)
-        (i : index ≡ lowest_bad (below vertices) (words_from bytes (28 + 4 * (3 * vertices)) count)) where
-      all-finite : length (mesh_in bytes).coordinates ≤ coordinate
-      all-finite = omega (arith, finite-all, hv, coordinates-length)
-
-      found-index : index ≡ lowest_bad (below (vertex_count (mesh_in bytes))) (mesh_in bytes).indices
-      unfolding mesh_in
-      found-index =
-          let place : 28 + 4 * (3 * vertices) ≡ 28 + 12 * word_at bytes 12 = omega arith in
-          i ∙ ap₂ (λ (p k : ℕ). lowest_bad (below vertices) (words_from bytes p k)) place hk
-          ∙ ap (λ (v : ℕ). lowest_bad (below v) (mesh_in bytes).indices) (hv ∙ sym mesh_in-vertices)
-
-      pub contents_in-index : index < count → malformed (28 + 4 * (3 * vertices) + 4 * index) ≡ contents 28 (mesh_in bytes)
-      contents_in-index h =
-          let place : 28 + 4 * (3 * vertices) + 4 * index ≡ 28 + 4 * length (mesh_in bytes).coordinates + 4 * index = omega (arith, hv, coordinates-length) in
-          ap malformed place ∙ contents-index 28 (mesh_in bytes) coordinate index found all-finite found-index (omega (arith, h, hk, indices-length))
-
-      pub contents_in-passed : count ≤ index → none ≡ contents 28 (mesh_in bytes)
-      contents_in-passed h = contents-passed 28 (mesh_in bytes) coordinate index found all-finite found-index (omega (arith, h, hk, indices-length))
+    pub indices-words : (vertices : ℕ) → vertices ≡ word_at bytes 12 → part ≡ drop (12 * vertices) (take (length bytes - 28) (drop 28 bytes))
+        → map (from_le_bytes w32) chunks ≡ (mesh_in bytes).indices
+    unfolding mesh_in
+    indices-words vertices is back =
+        let rest = drop (28 + 12 * word_at bytes 12) bytes in
+        let few : length (words rest) ≤ word_at bytes 20 = omega (arith, words-length rest, length-drop (28 + 12 * word_at bytes 12) bytes) in
+        part-words ∙ ap words (back ∙ ap₂ (λ (k : ℕ) (l : List ℕ). drop (12 * k) l) is after-header ∙ drop-drop (12 * word_at bytes 12) 28 bytes)
+        ∙ sym (take_all (word_at bytes 20) (words rest) few)

@@ -1,4 +1,4 @@
-pub mod Checks
+pub mod Chunks
 pub mod Contents
 pub mod Passed
 mod Cases

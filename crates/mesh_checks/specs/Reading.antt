@@ -1,9 +1,9 @@
 -- The mesh that a record holds, and the first refusal of a record: document 02, CR 1.
 use Rattle.std.specs.Prelude.{cond, not, List, ℕ, ◌+◌, ◌*◌, ltb, length}
 use Rattle.little_endian.specs.Words.{word_at, words_from}
-use Rattle.mesh_record.specs.declared.Refusal.{Refusal}
+use Rattle.std.specs.Result.{result_and}
 use Rattle.mesh_record.specs.Mesh.{Mesh}
-use Rattle.mesh_record.specs.Refusals.{malformed, none, or_else, differ, in_threes, opening, contents}
+use Rattle.mesh_record.specs.Refusals.{Checked, malformed, none, differ, in_threes, opening, contents}
 
 -- the mesh that the words of a header point to
 unfoldable pub mesh_in : List ℕ → Mesh
@@ -17,7 +17,7 @@ mesh_in bytes =
     }
 
 -- the other fields of a header, the lowest first, and the length
-unfoldable pub fields_in : List ℕ → Refusal
+unfoldable pub fields_in : List ℕ → Checked
 fields_in bytes =
     let vertices = word_at bytes 12 in
     let indices = word_at bytes 20 in
@@ -27,7 +27,7 @@ fields_in bytes =
     (cond (differ (length bytes) (28 + 12 * vertices + 4 * indices)) (malformed 24) none)))
 
 -- the first refusal of a record, or none
-unfoldable pub refusal_in : List ℕ → Refusal
+unfoldable pub refusal_in : List ℕ → Checked
 refusal_in bytes =
     cond (ltb (length bytes) 28) (malformed (length bytes))
-    (or_else (opening (word_at bytes 0) (word_at bytes 4) (word_at bytes 8)) (or_else (fields_in bytes) (contents 28 (mesh_in bytes))))
+    (result_and (opening (word_at bytes 0) (word_at bytes 4) (word_at bytes 8)) (result_and (fields_in bytes) (contents 28 (mesh_in bytes))))

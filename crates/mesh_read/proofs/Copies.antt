@@ -1,28 +1,26 @@
--- What the reader leaves, by the room of the two buffers and by the refusal. `copy_mesh` and `read_mesh` cite these.
+-- What the reader leaves, by the room of the two buffers. `copy_mesh` and the round trips cite these.
 use mathlib.Core.Path.{◌≡◌, sym, ap, ap₂, ◌∙◌}
-use mathlib.Core.Logic.{◌≢◌}
+use mathlib.Core.Logic.{◌⊎◌, inl, inr}
 use mathlib.Core.List.{List, map}
 use Prim.Native.Nat.{ℕ, ◌+◌, ◌*◌, ◌≤◌, ◌<◌}
 use native.Mathlib.Omega.{arith}
 use lib.ListN.{length}
 use lib.Ieee.{Float, binary32, of_bits}
-use borrow.Author.Tests.{lt-ltb, le-ltb, eq-eqb, ne_eqb}
+use borrow.Author.Tests.{lt-ltb, le-ltb}
 use Rattle.little_endian.specs.Words.{word_at, words_from, over}
 use Rattle.mesh_read.specs.declared.ReadAnswer.{ReadAnswer}
 use Rattle.mesh_record.specs.Mesh.{Mesh}
+use Rattle.mesh_record.specs.Refusals.{none}
 use Rattle.mesh_checks.specs.Reading.{mesh_in, refusal_in}
-use Rattle.mesh_read.specs.Reading.{left, refused, short, done, copied, reading}
+use Rattle.mesh_read.specs.Reading.{left, short, done, copied, reading}
 use Rattle.mesh_checks.proofs.Contents.{coordinates-length, indices-length, mesh_in-vertices}
 
 module _ (m : Mesh) (coordinates : List Float) (indices : List ℕ) where
-  pub copied-few-coordinates : length coordinates < length m.coordinates → left (short m) coordinates indices ≡ copied m coordinates indices
-  unfolding copied
-  copied-few-coordinates h = rw (lt-ltb (length coordinates) (length m.coordinates) h)
-
-  pub copied-few-indices : length m.coordinates ≤ length coordinates → length indices < length m.indices
+  pub copied-few : (length coordinates < length m.coordinates) ⊎ ((length m.coordinates ≤ length coordinates) × (length indices < length m.indices))
       → left (short m) coordinates indices ≡ copied m coordinates indices
   unfolding copied
-  copied-few-indices r h = rw (le-ltb (length coordinates) (length m.coordinates) r, lt-ltb (length indices) (length m.indices) h)
+  copied-few (inl h) = rw (lt-ltb (length coordinates) (length m.coordinates) h)
+  copied-few (inr h) = rw (le-ltb (length coordinates) (length m.coordinates) h.0, lt-ltb (length indices) (length m.indices) h.1)
 
   pub copied-done : length m.coordinates ≤ length coordinates → length m.indices ≤ length indices
       → left (done m) (over (map (of_bits binary32) m.coordinates) coordinates) (over m.indices indices) ≡ copied m coordinates indices
@@ -38,16 +36,15 @@ module _ (bytes : List ℕ) (coordinates : List Float) (indices : List ℕ) (who
   short-is : short_by vertices count ≡ short (mesh_in bytes)
   short-is = ap₂ short_by (hv ∙ sym (mesh_in-vertices bytes whole)) (hk ∙ sym (indices-length bytes whole))
 
-  module _ (answer : ReadAnswer) (is : answer ≡ short_by vertices count) where
-    pub few-coordinates : length coordinates < 3 * vertices → left answer coordinates indices ≡ copied (mesh_in bytes) coordinates indices
-    few-coordinates h =
-        ap (λ (a : ReadAnswer). left a coordinates indices) (is ∙ short-is)
-        ∙ copied-few-coordinates (mesh_in bytes) coordinates indices (omega (arith, h, hv, coordinates-length bytes whole))
-
-    pub few-indices : 3 * vertices ≤ length coordinates → length indices < count → left answer coordinates indices ≡ copied (mesh_in bytes) coordinates indices
-    few-indices r h =
-        ap (λ (a : ReadAnswer). left a coordinates indices) (is ∙ short-is)
-        ∙ copied-few-indices (mesh_in bytes) coordinates indices (omega (arith, r, hv, coordinates-length bytes whole)) (omega (arith, h, hk, indices-length bytes whole))
+  pub little-room : (answer : ReadAnswer) → answer ≡ short_by vertices count
+      → (length coordinates < 3 * vertices) ⊎ ((3 * vertices ≤ length coordinates) × (length indices < count)) → left answer coordinates indices ≡ copied (mesh_in bytes) coordinates indices
+  little-room answer is h = ap (λ (a : ReadAnswer). left a coordinates indices) (is ∙ short-is) ∙ copied-few (mesh_in bytes) coordinates indices (few h)
+    where
+      few : (length coordinates < 3 * vertices) ⊎ ((3 * vertices ≤ length coordinates) × (length indices < count))
+          → (length coordinates < length (mesh_in bytes).coordinates)
+          ⊎ ((length (mesh_in bytes).coordinates ≤ length coordinates) × (length indices < length (mesh_in bytes).indices))
+      few (inl h) = inl (omega (arith, h, hv, coordinates-length bytes whole))
+      few (inr h) = inr (omega (arith, h.0, hv, coordinates-length bytes whole), omega (arith, h.1, hk, indices-length bytes whole))
 
   abbrev done_by : ℕ → ℕ → ℕ → ℕ → ReadAnswer
   done_by s w v k = record { cause = 0; size = s; numbering = w; place = 0; vertices = v; indices = k }
@@ -69,10 +66,6 @@ module _ (bytes : List ℕ) (coordinates : List Float) (indices : List ℕ) (who
       ∙ copied-done (mesh_in bytes) coordinates indices (omega (arith, r, hv, coordinates-length bytes whole)) (omega (arith, q, hk, indices-length bytes whole))
 
 module _ (bytes : List ℕ) (coordinates : List Float) (indices : List ℕ) where
-  pub reading-refused : (refusal_in bytes).cause ≢ 0 → left (refused (refusal_in bytes)) coordinates indices ≡ reading bytes coordinates indices
+  pub reading-passed : none ≡ refusal_in bytes → copied (mesh_in bytes) coordinates indices ≡ reading bytes coordinates indices
   unfolding reading
-  reading-refused h = rw (ne_eqb (refusal_in bytes).cause 0 h)
-
-  pub reading-passed : (refusal_in bytes).cause ≡ 0 → copied (mesh_in bytes) coordinates indices ≡ reading bytes coordinates indices
-  unfolding reading
-  reading-passed h = rw (eq-eqb (refusal_in bytes).cause 0 h)
+  reading-passed is = rw (← is)

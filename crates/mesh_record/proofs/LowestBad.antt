@@ -1,63 +1,49 @@
--- The search for the lowest bad word, one word more, and what its answer says of the words. The four searches of reader and writer cite these.
-use mathlib.Core.Path.{◌≡◌, refl}
-use mathlib.Core.Bool.{Bool, true, false, cond}
-use mathlib.Core.List.{List, [], ◌∷◌}
-use Prim.Native.Nat.{ℕ, zero, suc, ◌+◌, ◌≤◌, ◌<◌}
-use native.Mathlib.Numerals.{add-one}
-use native.Mathlib.Omega.{arith}
-use lib.ListN.{length, get_or, drop, drop_of_length-le}
-use lib.Seq.{drop-cons}
+-- What the search for the lowest bad word says of the words where it finds none. The checks, the reader, the writer and the round trips cite these.
+use Rattle.std.proofs.Common.{◌≡◌, ◌<◌, ◌≤◌, refl, arith, Bool, true, false, cond, not, ltb, List, [], ◌∷◌, ℕ, length, get_or, map, Some, None}
+use lib.ListN.{length-map}
+use Rattle.std.specs.List.{prefix_len, position}
+use Rattle.std.proofs.lemmas.List.Sums.{prefix_len_passes, prefix_len_is}
+use borrow.Author.Tests.{ltb-false, le-ltb}
 use Rattle.mesh_record.specs.Refusals.{lowest_bad}
 
-module _ (test : ℕ → Bool) where
-  -- ---- the turns of a loop that has passed i words
+twice-not : (b : Bool) → not (not b) ≡ true → b ≡ true
+twice-not true h = refl
+twice-not false h = h
 
-  module _ (l : List ℕ) (i : ℕ) (within : i < length l) where
-    pub lowest_bad-good : test (get_or l i 0) ≡ true → i + lowest_bad test (drop i l) ≡ i + 1 + lowest_bad test (drop (i + 1) l)
-    unfolding lowest_bad
-    lowest_bad-good h =
-        let here : lowest_bad test (drop i l) ≡ suc (lowest_bad test (drop (i + 1) l)) = rw (drop-cons l i 0 within, h, add-one) in
-        omega arith
+not-twice : (b : Bool) → b ≡ true → not (not b) ≡ true
+not-twice b h = rw h
 
-    pub lowest_bad-bad : test (get_or l i 0) ≡ false → i + lowest_bad test (drop i l) ≡ i
-    unfolding lowest_bad
-    lowest_bad-bad h =
-        let here : lowest_bad test (drop i l) ≡ 0 = rw (drop-cons l i 0 within, h) in
-        omega arith
+past : (n m : ℕ) (b : Bool) → ltb n m ≡ b → cond b (Some n) None ≡ None → m ≤ n
+past n m true e h = absurd (cc)
+past n m false e h = ltb-false n m e
 
-  pub lowest_bad-end : (l : List ℕ) (i : ℕ) → length l ≤ i → i + lowest_bad test (drop i l) ≡ lowest_bad test l → i ≡ lowest_bad test l
+module _ (test : ℕ → Bool) (l : List ℕ) where
+  pub lowest_bad-none : lowest_bad test l ≡ None → (i : ℕ) → i < length l → test (get_or l i 0) ≡ true
   unfolding lowest_bad
-  lowest_bad-end l i h e =
-      let none : lowest_bad test (drop i l) ≡ 0 = rw (drop_of_length-le l h) in
-      omega arith
+  lowest_bad-none h i within =
+      let passes = λ (x : ℕ). not (not (test x)) in
+      let all : length l ≤ prefix_len passes l = past (prefix_len passes l) (length l) (ltb (prefix_len passes l) (length l)) refl h in
+      twice-not (test (get_or l i 0)) (prefix_len_passes passes l i 0 (omega arith))
 
-  -- ---- the answer
-
-  pub lowest_bad-le : (l : List ℕ) → lowest_bad test l ≤ length l
+  pub none-lowest_bad : ((i : ℕ) → i < length l → test (get_or l i 0) ≡ true) → lowest_bad test l ≡ None
   unfolding lowest_bad
-  lowest_bad-le [] = omega arith
-  lowest_bad-le (x ∷ l) = among (test x) (lowest_bad test l) (length l) (lowest_bad-le l)
-    where
-      among : (b : Bool) (k n : ℕ) → k ≤ n → cond b (suc k) 0 ≤ suc n
-      among true k n h = omega arith
-      among false k n h = omega arith
+  none-lowest_bad h =
+      let passes = λ (x : ℕ). not (not (test x)) in
+      let all : prefix_len passes l ≡ length l =
+      prefix_len_is passes l (length l) 0 (omega arith) (λ k within. not-twice (test (get_or l k 0)) (h k within)) (λ no. absurd (omega arith)) in
+      rw (le-ltb (prefix_len passes l) (length l) (omega arith))
 
-  -- every word passes where the search ends at the length, and only there
-  pub lowest_bad-all : (l : List ℕ) → length l ≤ lowest_bad test l → (i : ℕ) → i < length l → test (get_or l i 0) ≡ true
-  unfolding lowest_bad
-  lowest_bad-all [] h i within = absurd (omega arith)
-  lowest_bad-all (x ∷ l) h zero within = first (test x) (lowest_bad test l) (length l) h
-    where
-      first : (b : Bool) (k n : ℕ) → suc n ≤ cond b (suc k) 0 → b ≡ true
-      first true k n h = refl
-      first false k n h = absurd (omega arith)
-  lowest_bad-all (x ∷ l) h (suc i) within = lowest_bad-all l (rest (test x) (lowest_bad test l) (length l) h) i (omega arith)
-    where
-      rest : (b : Bool) (k n : ℕ) → suc n ≤ cond b (suc k) 0 → n ≤ k
-      rest true k n h = omega arith
-      rest false k n h = absurd (omega arith)
+-- ---- the library's search is this one, also among what a function makes of a list
 
-  pub all-lowest_bad : (l : List ℕ) → ((i : ℕ) → i < length l → test (get_or l i 0) ≡ true) → lowest_bad test l ≡ length l
+pub position-lowest_bad : (test : ℕ → Bool) (l : List ℕ) → position (λ w. not (test w)) l ≡ lowest_bad test l
+unfolding lowest_bad
+position-lowest_bad test l = refl
+
+module _ {X : Type 0} (f : X → ℕ) (test : ℕ → Bool) where
+  first-bad : (l : List X) → prefix_len (λ w. not (not (test w))) (map f l) ≡ prefix_len (λ x. not (not (test (f x)))) l
+  first-bad [] = refl
+  first-bad (x ∷ l) = rw (first-bad l)
+
+  pub lowest_bad-map : (l : List X) → position (λ x. not (test (f x))) l ≡ lowest_bad test (map f l)
   unfolding lowest_bad
-  all-lowest_bad [] h = refl
-  all-lowest_bad (x ∷ l) h = rw (h 0 (omega arith), all-lowest_bad l (λ i within. h (suc i) (omega arith)))
+  lowest_bad-map l = rw (first-bad l, length-map l f)

@@ -11,7 +11,7 @@ use lib.Ieee.{Float, nan, inf, fin, binary32, is_nan, nan_bits, fits, of_bits, o
 use lib.Ieee.Bits.{of_bits-to_bits, to_bits-lt, to_bits-of_bits, nan_bits_is, nan_bits_above}
 use borrow.Author.Tests.{ltb-true, ltb-false, le-ltb}
 use Rattle.little_endian.proofs.Bytes.{Below}
-use Rattle.little_endian.proofs.Runs.{get_or-map-at}
+use Rattle.std.proofs.lemmas.List.{get_or-map}
 use Rattle.mesh_record.specs.Mesh.{finite}
 
 finite-not-nan : (bits : ℕ) → finite bits ≡ true → T (not (is_nan (of_bits binary32 bits)))
@@ -74,4 +74,4 @@ pub bits-finite : (l : List Float) → Floats l → ((i : ℕ) → i < length l 
     → (i : ℕ) → i < length (map (to_bits binary32) l) → finite (get_or (map (to_bits binary32) l) i 0) ≡ true
 bits-finite l held numbers i within =
     let here : i < length l = omega (arith, within, length-map l (to_bits binary32)) in
-    ap finite (get_or-map-at (to_bits binary32) l i nan 0 here) ∙ finite-bits (get_or l i nan) (held i here) (numbers i here)
+    ap finite (get_or-map (to_bits binary32) l i nan 0 here) ∙ finite-bits (get_or l i nan) (held i here) (numbers i here)

@@ -3,34 +3,33 @@
 use mathlib.Core.Path.{◌≡◌, refl, sym, ap, ap₂, ◌∙◌, subst}
 use mathlib.Core.Bool.{Bool, true, false, cond, ◌||◌}
 use mathlib.Core.List.{List, map}
-use Prim.Native.Nat.{ℕ, ◌+◌, ◌*◌, ◌/◌, ◌≤◌}
+use Prim.Native.Nat.{ℕ, ◌*◌, ◌/◌, ◌≤◌}
 use native.Mathlib.Omega.{arith}
-use lib.Dec.{ltb, eqb}
+use lib.Dec.{ltb}
 use lib.ListN.{length, take, drop, length-map}
 use lib.Seq.{take-append_seam, take_at}
 use lib.Ieee.{Float, binary32, of_bits, to_bits}
-use borrow.Author.Tests.{ltb-false, eqb-true, eqb-false, le-ltb}
+use borrow.Author.Tests.{ltb-false, le-ltb}
+use Rattle.std.proofs.Common.{Ok, Err}
 use Rattle.little_endian.specs.Words.{over}
 use Rattle.little_endian.proofs.Bytes.{Below}
-use Rattle.mesh_record.specs.declared.Refusal.{Refusal}
 use Rattle.mesh_record.specs.Mesh.{Mesh, vertex_count, record_bytes, Good}
-use Rattle.mesh_record.specs.Refusals.{none, opening, contents}
+use Rattle.mesh_record.specs.Refusals.{Checked, none, opening, contents}
 use Rattle.mesh_checks.specs.Reading.{mesh_in, refusal_in}
-use Rattle.mesh_read.specs.Reading.{Read, refused, short, done, copied, reading}
+use Rattle.mesh_read.specs.Reading.{Read, short, done, copied, copied_unless, reading}
 use Rattle.mesh_read.specs.Reading.{left as reading_left}
-use Rattle.mesh_record.proofs.Checks.{opening-passed}
-use Rattle.mesh_record.proofs.Passed.{part-passed, opening-known, contents-known}
+use Rattle.mesh_record.proofs.Passed.{some-cause, part-passed, opening-known, opening-passed, contents-known, contents-passed}
 use Rattle.mesh_read.proofs.Copies.{copied-done, reading-passed}
-use Rattle.mesh_round_trip.proofs.Records.{contents-none, record-holds, record-accepted, accepted-good, accepted-again}
+use Rattle.mesh_round_trip.proofs.Records.{contents-sound, record-holds, record-accepted, accepted-good, accepted-again}
 use Rattle.mesh_round_trip.proofs.FiniteBits.{Floats, floats-of-bits, bits-of-floats, bits_small}
-use Rattle.mesh_write.specs.Writing.{mesh_of, fields_of, refusal_of, Written, left, answered, put, writing}
+use Rattle.mesh_write.specs.Writing.{mesh_of, fields_of, refusal_of, Written, left, answered, put, put_unless, writing}
 use Rattle.mesh_write.proofs.Fields.{fields_of-passed, fields_of-known}
 use Rattle.mesh_write.proofs.Meshes.{writing-passed}
 
 -- ---- which meshes are written
 
 -- A mesh of words that the writer does not refuse is good, and the version is 1;
-pub unrefused-good : (version : ℕ) (m : Mesh) → Below 4294967296 m.coordinates → (refusal_of version m).cause ≡ 0 → (version ≡ 1) × Good m
+pub unrefused-good : (version : ℕ) (m : Mesh) → Below 4294967296 m.coordinates → refusal_of version m ≡ none → (version ≡ 1) × Good m
 unfolding refusal_of
 unrefused-good version m small h =
     let parts = part-passed (opening version m.size m.numbering) _ h in
@@ -57,24 +56,27 @@ unrefused-good version m small h =
 pub good-unrefused : (m : Mesh) → Good m → refusal_of 1 m ≡ none
 unfolding refusal_of
 good-unrefused m good =
-    let first = opening-passed 1 m.size m.numbering refl good.least good.most good.numbering-word in
-    let offset : 28 + 12 * (length m.coordinates / 3) ≤ 4294967295 = omega (arith, good.offset_word) in
-    let second = fields_of-passed (length m.coordinates) (length m.indices) (omega (arith, good.coordinates-whole)) (omega (arith, offset))
-    good.indices-whole (omega (arith, good.indices-word)) offset in
-    rw (← first, ← second, ← contents-none m good)
+    let first = opening-passed 1 m.size m.numbering (record { first-version = refl; least = good.least; most = good.most; numbering-word = good.numbering-word }) in
+    let second = fields_of-passed (length m.coordinates) (length m.indices) (record {
+      coordinates-whole = good.coordinates-whole;
+      indices-whole = good.indices-whole;
+      indices-word = omega (arith, good.indices-word);
+      offset_word = omega (arith, good.offset_word);
+    }) in
+    rw (first, second, contents-passed 28 m (contents-sound m good))
 
 -- With the room for its record it is written.
 pub good-written : (m : Mesh) → Good m → (out : List ℕ) → length (record_bytes m) ≤ length out
     → writing 1 m out ≡ left (answered 0 0 (length (record_bytes m))) (over (record_bytes m) out)
 unfolding put
 good-written m good out room =
-    sym (writing-passed 1 m out none (sym (good-unrefused m good)) (put m out) refl refl) ∙ rw (le-ltb (length out) (length (record_bytes m)) room)
+    sym (writing-passed 1 m out (sym (good-unrefused m good))) ∙ rw (le-ltb (length out) (length (record_bytes m)) room)
 
 -- ---- what is left after cause 0
 
 -- what holds where the writer is done
 pub record WrittenRecord (version : ℕ) (m : Mesh) (out : List ℕ) : Type 0 where
-  pub unrefused : (refusal_of version m).cause ≡ 0
+  pub unrefused : refusal_of version m ≡ none
   pub room : length (record_bytes m) ≤ length out
   pub written : writing version m out ≡ left (answered 0 0 (length (record_bytes m))) (over (record_bytes m) out)
 
@@ -85,19 +87,17 @@ module _ (version : ℕ) (m : Mesh) (out : List ℕ) where
   put-by true e h = absurd (omega arith)
   put-by false e h = refl
 
-  refused-by : (b : Bool) → eqb (refusal_of version m).cause 0 ≡ b
-      → (cond b (put m out) (left (answered (refusal_of version m).cause (refusal_of version m).place 0) out)).answer.cause ≡ 0 → (b ≡ true)
-  refused-by true e h = refl
-  refused-by false e h = absurd (eqb-false (refusal_of version m).cause 0 e h)
+  passed-by : (r : Checked) → (put_unless r m out).answer.cause ≡ 0 → r ≡ none
+  passed-by (Ok x) h = refl
+  passed-by (Err refusal) h = absurd (omega (arith, some-cause refusal))
 
   pub writing-done : (writing version m out).answer.cause ≡ 0 → WrittenRecord version m out
   unfolding writing put
   writing-done h =
-      let passed = refused-by (eqb (refusal_of version m).cause 0) refl h in
-      let fitted = put-by (ltb (length out) (length (record_bytes m))) refl
-      (subst (λ (b : Bool). (cond b (put m out) (left (answered (refusal_of version m).cause (refusal_of version m).place 0) out)).answer.cause ≡ 0) passed h) in
+      let passed = passed-by (refusal_of version m) h in
+      let fitted = put-by (ltb (length out) (length (record_bytes m))) refl (subst (λ (r : Checked). (put_unless r m out).answer.cause ≡ 0) passed h) in
       record {
-        unrefused = eqb-true (refusal_of version m).cause 0 passed;
+        unrefused = passed;
         room = ltb-false (length out) (length (record_bytes m)) fitted;
         written = rw (passed, fitted);
       }
@@ -129,7 +129,7 @@ module _ (version size numbering : ℕ) (coordinates : List Float) (indices out 
   written_read floats words room index-room =
       let few : length m.coordinates ≤ length floats = omega (arith, room, length-map coordinates (to_bits binary32)) in
       ap (λ (l : List ℕ). reading l floats words) written-front
-      ∙ sym (reading-passed (record_bytes m) floats words (ap (λ (r : Refusal). r.cause) (record-accepted m written-good)))
+      ∙ sym (reading-passed (record_bytes m) floats words (sym (record-accepted m written-good)))
       ∙ ap (λ (k : Mesh). copied k floats words) (record-holds m written-good)
       ∙ sym (copied-done m floats words few index-room)
       ∙ ap₂ (λ (k : ℕ) (l : List Float). reading_left (record { cause = 0; size = size; numbering = numbering; place = 0; vertices = k / 3; indices = length indices })
@@ -139,7 +139,7 @@ module _ (version size numbering : ℕ) (coordinates : List Float) (indices out 
 
 -- what holds where the reader is done
 pub record ReadRecord (bytes : List ℕ) (floats : List Float) (words : List ℕ) : Type 0 where
-  pub accepted : (refusal_in bytes).cause ≡ 0
+  pub accepted : refusal_in bytes ≡ none
   pub read : reading bytes floats words
       ≡ reading_left (done (mesh_in bytes)) (over (map (of_bits binary32) (mesh_in bytes).coordinates) floats) (over (mesh_in bytes).indices words)
 
@@ -157,18 +157,16 @@ module _ (bytes : List ℕ) (floats : List Float) (words : List ℕ) where
   copied-by true h = absurd (omega arith)
   copied-by false h = refl
 
-  accepted-by : (b : Bool) → eqb (refusal_in bytes).cause 0 ≡ b
-      → (cond b (copied (mesh_in bytes) floats words) (reading_left (refused (refusal_in bytes)) floats words)).answer.cause ≡ 0 → (b ≡ true)
-  accepted-by true e h = refl
-  accepted-by false e h = absurd (eqb-false (refusal_in bytes).cause 0 e h)
+  accepted-by : (r : Checked) → (copied_unless r (mesh_in bytes) floats words).answer.cause ≡ 0 → r ≡ none
+  accepted-by (Ok x) h = refl
+  accepted-by (Err refusal) h = absurd (omega (arith, some-cause refusal))
 
   pub reading-done : (reading bytes floats words).answer.cause ≡ 0 → ReadRecord bytes floats words
   unfolding reading copied
   reading-done h =
-      let passed = accepted-by (eqb (refusal_in bytes).cause 0) refl h in
-      let roomy = copied-by few
-      (subst (λ (b : Bool). (cond b (copied (mesh_in bytes) floats words) (reading_left (refused (refusal_in bytes)) floats words)).answer.cause ≡ 0) passed h) in
-      record { accepted = eqb-true (refusal_in bytes).cause 0 passed; read = rw (passed, roomy) }
+      let passed = accepted-by (refusal_in bytes) h in
+      let roomy = copied-by few (subst (λ (r : Checked). (copied_unless r (mesh_in bytes) floats words).answer.cause ≡ 0) passed h) in
+      record { accepted = passed; read = rw (passed, roomy) }
 
 -- An accepted record written again, from what the reader left, gives the same bytes.
 module _ (bytes : List ℕ) (small : Below 256 bytes) (floats : List Float) (words out : List ℕ) (cause : (reading bytes floats words).answer.cause ≡ 0) where
@@ -209,28 +207,37 @@ module _ (bytes : List ℕ) (small : Below 256 bytes) (floats : List Float) (wor
 
 -- ---- refused
 
+module _ (bytes : List ℕ) (floats : List Float) (words : List ℕ) where
+  short-unchanged : (short-of-room : Bool) → let r = cond short-of-room (reading_left (short (mesh_in bytes)) floats words) (done-read bytes floats words) in
+      (r.answer.cause ≡ 0 → ⊥) → (r.coordinates ≡ floats) × (r.indices ≡ words)
+  short-unchanged true h = (refl, refl)
+  short-unchanged false h = absurd (h refl)
+
+  refused-unchanged : (first : Checked) → let r = copied_unless first (mesh_in bytes) floats words in
+      (r.answer.cause ≡ 0 → ⊥) → (r.coordinates ≡ floats) × (r.indices ≡ words)
+  unfolding copied
+  refused-unchanged (Ok x) h = short-unchanged (few bytes floats words) h
+  refused-unchanged (Err refusal) h = (refl, refl)
+
 -- After any cause but 0 the reader has left both buffers as they were,
 pub read-unchanged : (bytes : List ℕ) (floats : List Float) (words : List ℕ) → ((reading bytes floats words).answer.cause ≡ 0 → ⊥)
     → ((reading bytes floats words).coordinates ≡ floats) × ((reading bytes floats words).indices ≡ words)
-unfolding reading copied
-read-unchanged bytes floats words = by (eqb (refusal_in bytes).cause 0) (few bytes floats words)
-  where
-    by : (passed short-of-room : Bool)
-        → let r = cond passed (cond short-of-room (reading_left (short (mesh_in bytes)) floats words) (done-read bytes floats words)) (reading_left (refused (refusal_in bytes)) floats words) in
-        (r.answer.cause ≡ 0 → ⊥) → (r.coordinates ≡ floats) × (r.indices ≡ words)
-    by true true h = (refl, refl)
-    by true false h = absurd (h refl)
-    by false b h = (refl, refl)
+unfolding reading
+read-unchanged bytes floats words = refused-unchanged bytes floats words (refusal_in bytes)
+
+module _ (m : Mesh) (out : List ℕ) where
+  unwritten-unchanged : (short-of-room : Bool)
+      → let w = cond short-of-room (left (answered 10 0 (length (record_bytes m))) out) (left (answered 0 0 (length (record_bytes m))) (over (record_bytes m) out)) in
+      (w.answer.cause ≡ 0 → ⊥) → w.out ≡ out
+  unwritten-unchanged true h = refl
+  unwritten-unchanged false h = absurd (h refl)
+
+  unput-unchanged : (first : Checked) → ((put_unless first m out).answer.cause ≡ 0 → ⊥) → (put_unless first m out).out ≡ out
+  unfolding put
+  unput-unchanged (Ok x) h = unwritten-unchanged (ltb (length out) (length (record_bytes m))) h
+  unput-unchanged (Err refusal) h = refl
 
 -- and the writer the output.
 pub write-unchanged : (version : ℕ) (m : Mesh) (out : List ℕ) → ((writing version m out).answer.cause ≡ 0 → ⊥) → (writing version m out).out ≡ out
-unfolding writing put
-write-unchanged version m out = by (eqb (refusal_of version m).cause 0) (ltb (length out) (length (record_bytes m)))
-  where
-    by : (passed short-of-room : Bool)
-        → let w = cond passed (cond short-of-room (left (answered 10 0 (length (record_bytes m))) out) (left (answered 0 0 (length (record_bytes m))) (over (record_bytes m) out)))
-        (left (answered (refusal_of version m).cause (refusal_of version m).place 0) out) in
-        (w.answer.cause ≡ 0 → ⊥) → w.out ≡ out
-    by true true h = refl
-    by true false h = absurd (h refl)
-    by false b h = refl
+unfolding writing
+write-unchanged version m out = unput-unchanged m out (refusal_of version m)

@@ -6,20 +6,15 @@ use Prim.Native.Nat.{ℕ, ◌+◌, ◌*◌, ◌/◌, ◌%◌, ◌≤◌, ◌<◌
 use native.Mathlib.Omega.{arith}
 use lib.ListN.{length, get_or, take, drop, length-append, length-drop, take-append-drop}
 use lib.Seq.{take-length, take-append_seam, take_all, drop_at, drop-drop}
-use borrow.Author.Tests.{lt-ltb}
 use Rattle.little_endian.specs.Words.{word_at, words, words_from, bytes_of}
 use Rattle.little_endian.proofs.Words.{words-length, words-at, words-drop}
 use Rattle.little_endian.proofs.Bytes.{Below, below-cons, below-append, below-take, below-drop, words-bytes_of, bytes_of-words, words-below, word_at-lt}
-use Rattle.mesh_record.specs.declared.Refusal.{Refusal}
-use Rattle.mesh_record.specs.Mesh.{Mesh, vertex_count, finite, below, header, record_bytes, Good}
-use Rattle.mesh_record.specs.Refusals.{none, lowest_bad, contents}
+use Rattle.mesh_record.specs.Mesh.{Mesh, vertex_count, header, record_bytes, Good}
+use Rattle.mesh_record.specs.Refusals.{none}
 use Rattle.mesh_checks.specs.Reading.{mesh_in, refusal_in}
-use Rattle.mesh_record.proofs.LowestBad.{all-lowest_bad}
-use Rattle.mesh_record.proofs.Checks.{opening-passed}
-use Rattle.mesh_checks.proofs.Checks.{fields_in-passed}
-use Rattle.mesh_record.proofs.Contents.{contents-passed}
+use Rattle.mesh_record.proofs.Passed.{Sound}
 use Rattle.mesh_checks.proofs.Contents.{coordinates-length, indices-length, mesh_in-vertices}
-use Rattle.mesh_checks.proofs.Passed.{Whole, refusal_in-known, refusal_in-contents}
+use Rattle.mesh_checks.proofs.Passed.{Whole, refusal_in-known, refusal_in-passed}
 use Rattle.mesh_write.proofs.Puts.{record-length}
 
 -- ---- seven words
@@ -103,23 +98,28 @@ module _ (m : Mesh) (good : Good m) where
   unfolding mesh_in
   record-holds = rw (size_is, numbering-is, coordinates-are, indices-are)
 
-  pub contents-none : none ≡ contents 28 m
-  contents-none =
-      let finite-all = all-lowest_bad finite m.coordinates good.coordinates-finite in
-      let below_all = all-lowest_bad (below (vertex_count m)) m.indices (λ i within. lt-ltb (get_or m.indices i 0) (vertex_count m) (good.indices-below i within)) in
-      contents-passed 28 m (lowest_bad finite m.coordinates) (lowest_bad (below (vertex_count m)) m.indices) refl
-      (omega (arith, finite-all)) refl (omega (arith, below_all))
+  pub contents-sound : Sound m
+  contents-sound = record { coordinates-finite = good.coordinates-finite; indices-below = good.indices-below }
 
   -- The record of a good mesh is accepted.
   pub record-accepted : refusal_in (record_bytes m) ≡ none
   record-accepted =
-      let whole : length bytes ≡ 28 + 12 * word_at bytes 12 + 4 * word_at bytes 20 = omega (arith, record-whole, vertices-is, indices-is) in
-      sym (refusal_in-contents bytes (omega (arith, record-whole)) (word_at bytes 0) (word_at bytes 4) (word_at bytes 8) none refl refl refl
-      (opening-passed (word_at bytes 0) (word_at bytes 4) (word_at bytes 8) version-is
-      (omega (arith, size_is, good.least)) (omega (arith, size_is, good.most)) (omega (arith, numbering-is, good.numbering-word)))
-      refl none (fields_in-passed bytes vertices-at-is (ap (λ (k : ℕ). k % 3) indices-is ∙ good.indices-whole)
-      (indices-at-is ∙ ap (λ (k : ℕ). 28 + 12 * k) (sym vertices-is)) whole)
-      refl none (contents-none ∙ ap (contents 28) (sym record-holds)))
+      refusal_in-passed bytes (record {
+        long = omega (arith, record-whole);
+        opened = record {
+          first-version = version-is;
+          least = omega (arith, size_is, good.least);
+          most = omega (arith, size_is, good.most);
+          numbering-word = omega (arith, numbering-is, good.numbering-word);
+        };
+        fields = record {
+          vertices-at = vertices-at-is;
+          threes = ap (λ (k : ℕ). k % 3) indices-is ∙ good.indices-whole;
+          indices-at = indices-at-is ∙ ap (λ (k : ℕ). 28 + 12 * k) (sym vertices-is);
+          whole = omega (arith, record-whole, vertices-is, indices-is);
+        };
+        sound = subst Sound (sym record-holds) contents-sound;
+      })
 
 -- ---- a record that is accepted
 
@@ -135,7 +135,7 @@ seven (p ∷ q ∷ r ∷ s ∷ t ∷ []) a b c d e f g h ea eb ec ed ee ef eg = 
 seven (p ∷ q ∷ r ∷ s ∷ t ∷ u ∷ []) a b c d e f g h ea eb ec ed ee ef eg = absurd (omega arith)
 seven (p ∷ q ∷ r ∷ s ∷ t ∷ u ∷ v ∷ l) a b c d e f g h ea eb ec ed ee ef eg = cc
 
-module _ (bytes : List ℕ) (small : Below 256 bytes) (accepted : (refusal_in bytes).cause ≡ 0) where
+module _ (bytes : List ℕ) (small : Below 256 bytes) (accepted : refusal_in bytes ≡ none) where
   known : Whole bytes
   known = refusal_in-known bytes accepted
 
@@ -212,14 +212,14 @@ pub record RecordOfGood (bytes : List ℕ) : Type 0 where
   pub is : bytes ≡ record_bytes mesh
 
 -- The bytes that are accepted are exactly the records of good meshes,
-pub accepted-exactly : (bytes : List ℕ) → Below 256 bytes → ((refusal_in bytes).cause ≡ 0 → RecordOfGood bytes) × (RecordOfGood bytes → (refusal_in bytes).cause ≡ 0)
+pub accepted-exactly : (bytes : List ℕ) → Below 256 bytes → (refusal_in bytes ≡ none → RecordOfGood bytes) × (RecordOfGood bytes → refusal_in bytes ≡ none)
 accepted-exactly bytes small = (
   λ accepted. record { mesh = mesh_in bytes; good = accepted-good bytes small accepted; is = sym (accepted-again bytes small accepted) },
-  λ held. ap (λ (l : List ℕ). (refusal_in l).cause) held.is ∙ ap (λ (r : Refusal). r.cause) (record-accepted held.mesh held.good),
+  λ held. ap refusal_in held.is ∙ record-accepted held.mesh held.good,
 )
 
 -- and two records of one mesh are the same bytes.
-pub records-equal : (first second : List ℕ) → Below 256 first → Below 256 second → (refusal_in first).cause ≡ 0 → (refusal_in second).cause ≡ 0
+pub records-equal : (first second : List ℕ) → Below 256 first → Below 256 second → refusal_in first ≡ none → refusal_in second ≡ none
     → mesh_in first ≡ mesh_in second → first ≡ second
 records-equal first second first_small second-small first-accepted second-accepted same =
     sym (accepted-again first first_small first-accepted) ∙ ap record_bytes same ∙ accepted-again second second-small second-accepted

@@ -1,4 +1,4 @@
--- A record put in three parts, one after another, is the record: its header, its vertices, its indices. `put_mesh` cites these.
+-- A record put in three parts, one after another, is the record: its header, its vertices, its indices. `put` and the round trips cite these.
 use mathlib.Core.Path.{◌≡◌, sym, ap, ap₂, ◌∙◌}
 use mathlib.Core.List.{List, [], ◌∷◌, ◌++◌, map}
 use Prim.Native.Nat.{ℕ, ◌+◌, ◌*◌, ◌/◌, ◌≤◌, ◌<◌}
@@ -12,7 +12,7 @@ use Rattle.little_endian.specs.Words.{bytes_of, over}
 use Rattle.little_endian.proofs.Bytes.{bytes_of-length, bytes_of-append, sets-append}
 use Rattle.mesh_record.specs.Mesh.{Mesh, header, record_bytes}
 use Rattle.mesh_write.specs.declared.WriteAnswer.{WriteAnswer}
-use Rattle.mesh_write.specs.Writing.{mesh_of, left, answered, put}
+use Rattle.mesh_write.specs.Writing.{mesh_of, left, short, done, put}
 use Rattle.mesh_write.proofs.Meshes.{bits-length}
 
 sets_over : (new old : List ℕ) → length new ≤ length old → sets old 0 new ≡ over new old
@@ -49,11 +49,11 @@ module _ (size numbering : ℕ) (coordinates : List Float) (indices out : List �
   length-is : length (record_bytes m) ≡ 28 + 4 * length coordinates + 4 * length indices
   length-is = record-length m ∙ ap (λ (k : ℕ). 28 + 4 * k + 4 * length indices) (bits-length coordinates)
 
-  pub put-short : (answer : WriteAnswer) → answer ≡ answered 10 0 (28 + 4 * length coordinates + 4 * length indices)
+  pub put-short : (answer : WriteAnswer) → answer ≡ short (28 + 4 * length coordinates + 4 * length indices)
       → length out < 28 + 4 * length coordinates + 4 * length indices → left answer out ≡ put (mesh_of size numbering coordinates indices) out
   unfolding put
   put-short answer is h =
-      ap (λ (a : WriteAnswer). left a out) (is ∙ ap (answered 10 0) (sym length-is)) ∙ rw (lt-ltb (length out) (length (record_bytes m)) (omega (arith, h, length-is)))
+      ap (λ (a : WriteAnswer). left a out) (is ∙ ap short (sym length-is)) ∙ rw (lt-ltb (length out) (length (record_bytes m)) (omega (arith, h, length-is)))
 
   header_by : ℕ → List ℕ
   header_by vertices = 1 ∷ size ∷ numbering ∷ vertices ∷ 28 ∷ length indices ∷ (28 + 12 * vertices) ∷ []
@@ -62,7 +62,7 @@ module _ (size numbering : ℕ) (coordinates : List Float) (indices out : List �
       → first ≡ sets out 0 (bytes_of (1 ∷ size ∷ numbering ∷ length coordinates / 3 ∷ 28 ∷ length indices ∷ (28 + 12 * (length coordinates / 3)) ∷ []))
       → second ≡ sets first 28 (bytes_of (map (to_bits binary32) coordinates))
       → third ≡ sets second (28 + 4 * length coordinates) (bytes_of indices)
-      → answer ≡ answered 0 0 (28 + 4 * length coordinates + 4 * length indices)
+      → answer ≡ done (28 + 4 * length coordinates + 4 * length indices)
       → left answer third ≡ put (mesh_of size numbering coordinates indices) out
   unfolding put header_by
   put-done first second third answer room one two three is =
@@ -72,4 +72,4 @@ module _ (size numbering : ℕ) (coordinates : List Float) (indices out : List �
       three ∙ ap (λ (k : ℕ). sets second (28 + 4 * k) (bytes_of indices)) (sym (bits-length coordinates))
       ∙ ap (λ (l : List ℕ). sets l (28 + 4 * length m.coordinates) (bytes_of indices)) (two ∙ ap (λ (l : List ℕ). sets l 28 (bytes_of m.coordinates)) opened)
       ∙ sym (put-parts m out) ∙ sets_over (record_bytes m) out (omega (arith, room, length-is)) in
-      ap₂ left (is ∙ ap (answered 0 0) (sym length-is)) filled ∙ rw (le-ltb (length out) (length (record_bytes m)) (omega (arith, room, length-is)))
+      ap₂ left (is ∙ ap done (sym length-is)) filled ∙ rw (le-ltb (length out) (length (record_bytes m)) (omega (arith, room, length-is)))

@@ -1,12 +1,15 @@
 -- What the writer of mesh records answers and leaves in the memory lent to it: document 02, CR 1. It makes the reader's checks, with the places of
 -- the record to be.
-use Rattle.std.specs.Prelude.{◌≡◌, Bool, cond, not, ◌||◌, List, map, ℕ, ◌+◌, ◌*◌, ◌/◌, ◌%◌, ◌≤◌, ltb, eqb, length, Float}
+use Rattle.std.specs.Prelude.{◌≡◌, Bool, cond, not, ◌||◌, List, map, ℕ, ◌+◌, ◌*◌, ◌/◌, ◌%◌, ◌≤◌, ltb, length, Ok, Err, Float}
 use Rattle.std.specs.Float.{binary32}
 use Rattle.std.specs.Float.Ieee.{to_bits}
+use Rattle.std.specs.Result.{result_and}
 use Rattle.little_endian.specs.Words.{over}
-use Rattle.mesh_record.specs.declared.Refusal.{Refusal}
+use Rattle.refusals.specs.declared.Refusal.{Refusal}
+use Rattle.refusals.specs.Causes.{cause_of, place_of}
 use Rattle.mesh_record.specs.Mesh.{Mesh, record_bytes}
-use Rattle.mesh_record.specs.Refusals.{malformed, none, or_else, in_threes, opening, contents}
+use Rattle.mesh_record.specs.Refusals.{Checked, malformed, none, in_threes, opening, contents}
+use Rattle.mesh_write.specs.declared.LentMesh.{LentMesh}
 use Rattle.mesh_write.specs.declared.WriteAnswer.{WriteAnswer}
 
 -- the mesh of lent floats and words
@@ -14,12 +17,16 @@ abbrev pub mesh_of : ℕ → ℕ → List Float → List ℕ → Mesh
 mesh_of size numbering coordinates indices =
     record { size = size; numbering = numbering; coordinates = map (to_bits binary32) coordinates; indices = indices }
 
+-- the mesh that a caller lends
+abbrev pub mesh_lent : LentMesh → Mesh
+mesh_lent lent = mesh_of lent.size lent.numbering lent.coordinates.now lent.indices.now
+
 -- a count or a place that a word cannot hold
 abbrev pub too_large : ℕ → Bool
 too_large n = ltb 4294967295 n
 
 -- the other fields of the header to be, the lowest first: the counts, by how many coordinates and indices are lent, and where the indices start
-unfoldable pub fields_of : ℕ → ℕ → Refusal
+unfoldable pub fields_of : ℕ → ℕ → Checked
 fields_of coordinates indices =
     let vertices = coordinates / 3 in
     cond (not (in_threes coordinates) || too_large vertices) (malformed 12)
@@ -34,9 +41,9 @@ pub record Fits (coordinates indices : ℕ) : Type 0 where
   pub offset_word : 28 + 12 * (coordinates / 3) ≤ 4294967295
 
 -- the first refusal of a mesh, or none
-unfoldable pub refusal_of : ℕ → Mesh → Refusal
+unfoldable pub refusal_of : ℕ → Mesh → Checked
 refusal_of version m =
-    or_else (opening version m.size m.numbering) (or_else (fields_of (length m.coordinates) (length m.indices)) (contents 28 m))
+    result_and (opening version m.size m.numbering) (result_and (fields_of (length m.coordinates) (length m.indices)) (contents 28 m))
 
 -- everything that the call leaves
 pub record Written : Type 0 where
@@ -49,14 +56,26 @@ left answer out = record { answer = answer; out = out }
 abbrev pub answered : ℕ → ℕ → ℕ → WriteAnswer
 answered cause place bytes = record { cause = cause; place = place; bytes = bytes }
 
--- the record at the front of the output, where that has the room; else cause 10, with the room needed
+abbrev pub refused : Refusal → WriteAnswer
+refused refusal = answered (cause_of refusal) (place_of refusal) 0
+
+-- cause 10, with the room needed
+abbrev pub short : ℕ → WriteAnswer
+short bytes = answered 10 0 bytes
+
+abbrev pub done : ℕ → WriteAnswer
+done bytes = answered 0 0 bytes
+
+-- the record at the front of the output, where that has the room
 unfoldable pub put : Mesh → List ℕ → Written
 put m out =
     let bytes = record_bytes m in
-    cond (ltb (length out) (length bytes)) (left (answered 10 0 (length bytes)) out) (left (answered 0 0 (length bytes)) (over bytes out))
+    cond (ltb (length out) (length bytes)) (left (short (length bytes)) out) (left (done (length bytes)) (over bytes out))
 
--- a refusal changes nothing
+-- what is left, by the first refusal: a refusal changes nothing
+abbrev pub put_unless : Checked → Mesh → List ℕ → Written
+put_unless (Ok _) m out = put m out
+put_unless (Err refusal) m out = left (refused refusal) out
+
 unfoldable pub writing : ℕ → Mesh → List ℕ → Written
-writing version m out =
-    let r = refusal_of version m in
-    cond (eqb r.cause 0) (put m out) (left (answered r.cause r.place 0) out)
+writing version m out = put_unless (refusal_of version m) m out

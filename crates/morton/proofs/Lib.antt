@@ -1,2 +1,1 @@
 pub mod TopBit
-pub mod Children

@@ -6,15 +6,12 @@ use Prim.Native.Nat.{ℕ}
 use lib.Count.{count_leading_zeros}
 use lib.IntN.{negsuc}
 use lib.Ieee.{Float, fin}
-use Rattle.morton.specs.declared.Number.{Number}
-use Rattle.morton.specs.declared.Number.TheVariants as number
-use Rattle.morton_cells.specs.declared.Length.{Length}
-use Rattle.morton_cells.specs.declared.Length.TheVariants as lengths
-use Rattle.morton_cells.specs.declared.Point.{Point}
-use Rattle.morton_cells.specs.declared.Point.TheVariants as point
+use Rattle.std.specs.Prelude.{Result, Ok, Err}
+use Rattle.morton.specs.declared.BadKey.{BadKey}
+use Rattle.morton_cells.specs.declared.Vec3.{Vec3}
 use Rattle.morton.specs.Key.{top_bit, good, level_in}
 use Rattle.morton_sums.specs.Interleaved.{thirds, spread, sum_of, difference_of}
-use Rattle.morton.specs.Answer.{level_of, parent_of, child_of}
+use Rattle.morton.specs.Answer.{bad_key, level_of, parent_of, child_of}
 use Rattle.morton_cells.specs.Cell.{half_size_of, center_of}
 
 -- what is asked
@@ -23,9 +20,9 @@ data Case : Type 0 where
   child sum difference : ℕ → ℕ → Case
 
 data Answer : Type 0 where
-  is_number : Number → Answer
-  is_length : Length → Answer
-  is_point : Point → Answer
+  is_number : Result ℕ BadKey → Answer
+  is_length : Result Float BadKey → Answer
+  is_point : Result Vec3 BadKey → Answer
   is_word : ℕ → Answer
 
 abbrev answer : Case → Answer
@@ -41,7 +38,7 @@ abbrev quarter : Float
 quarter = fin false 1 (negsuc 1)
 
 abbrev refused : Answer
-refused = is_number number.Refused
+refused = is_number (Err bad_key)
 
 cases : map answer (
     -- W9: key 8
@@ -64,18 +61,18 @@ cases : map answer (
     sum 0xFFFF_FFFF_FFFF_FFFF 7 ∷
     difference 0 7 ∷
     []) ≡
-    is_number (number.Is 1) ∷
-    is_number (number.Is 1) ∷
-    is_point (point.At (record { x = quarter; y = quarter; z = quarter })) ∷
-    is_length (lengths.Is quarter) ∷
-    is_number (number.Is 0) ∷
-    is_number (number.Is 1) ∷
-    is_number (number.Is 15) ∷
+    is_number (Ok 1) ∷
+    is_number (Ok 1) ∷
+    is_point (Ok (record { x = quarter; y = quarter; z = quarter })) ∷
+    is_length (Ok quarter) ∷
+    is_number (Ok 0) ∷
+    is_number (Ok 1) ∷
+    is_number (Ok 15) ∷
     refused ∷
     refused ∷
     refused ∷
     refused ∷
-    is_number (number.Is 21) ∷
+    is_number (Ok 21) ∷
     is_word 0 ∷
     is_word 0xFFFF_FFFF_FFFF_FFFF ∷
     []

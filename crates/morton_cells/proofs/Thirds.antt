@@ -10,7 +10,7 @@ use lib.Bits.{bit_and, and_mask}
 use Rattle.morton.specs.Key.{level_in}
 use Rattle.morton_sums.specs.Interleaved.{thirds, Axis, X, Y, Z, place, width}
 use Rattle.morton_cells.specs.Cell.{center_at, center_on}
-use Rattle.morton.proofs.TopBit.{level_in-le}
+use Rattle.morton.proofs.TopBit.{level_in_le}
 use Rattle.morton_cells.proofs.Packing.{pack, sparse, folded, thrice, pack-masked, sparse-masked, pack-folded}
 
 mod_below : (n m l : ℕ) → l ≤ m → n % 2 ^ m % 2 ^ l ≡ n % 2 ^ l
@@ -99,4 +99,4 @@ width-ge Z = lit≤ tt
 pub center-on-axis : (axis : Axis) (key word level : ℕ) → word ≡ key / 2 ^ place axis → level ≡ level_in key → center_at (thirds level word) level ≡ center_on axis key
 center-on-axis axis key word level e h =
     ap₂ (λ (w l : ℕ). center_at (thirds l w) l) e h
-    ∙ ap (λ (b : ℕ). center_at b (level_in key)) (sym (thirds-mod (width axis) (level_in key) (key / 2 ^ place axis) (le_trans (level_in-le key) (width-ge axis))))
+    ∙ ap (λ (b : ℕ). center_at b (level_in key)) (sym (thirds-mod (width axis) (level_in key) (key / 2 ^ place axis) (le_trans (level_in_le key) (width-ge axis))))

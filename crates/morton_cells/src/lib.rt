@@ -7,7 +7,7 @@ ghost use Rattle.std.specs.Prelude.{◌≡◌, ◌≤◌};
 ghost use Rattle.morton_sums.specs.Interleaved.{thirds};
 ghost use Rattle.morton_cells.specs.Cell.{half_size_of, center_of, half_size_at, center_at};
 
-use morton::{is_good, level_in};
+use morton::{BadKey, level};
 
 const SHIFT_2A: u64 = 18;
 
@@ -27,13 +27,6 @@ const DILATE_MASK_1: u64 = 0x01C0_E070_381C_0E07; // 3 bits at 0, 9, .., 54
 
 const DILATE_MASK_0: u64 = 0x9249_2492_4924_9249; // bits 0, 3, .., 63
 
-// A half-size, or refusal 9.
-#[derive(Clone, Copy)]
-pub enum Length {
-    Is(f32),
-    Refused,
-}
-
 #[derive(Clone, Copy)]
 pub struct Vec3 {
     pub x: f32,
@@ -41,63 +34,63 @@ pub struct Vec3 {
     pub z: f32,
 }
 
-// A center, or refusal 9.
+// A level of the octree.
 #[derive(Clone, Copy)]
-pub enum Point {
-    At(Vec3),
-    Refused,
+struct Level {
+    number: u32,
+    ghost within: { number ≤ 21 },
 }
 
-// `size` of morton.rs.
-fn half_size_at(level: u32) -> f32
-    requires { level ≤ 21 }
-    ensures { result ≡ half_size_at level }
-{
-    1.0 / ((2u64 << level) as f32)
+impl Level {
+    // `size` of morton.rs.
+    fn half_size(self) -> f32
+        ensures { result ≡ half_size_at self.number }
+    {
+        1.0 / ((2u64 << self.number) as f32)
+    }
+
+    // Every third bit, moved together by threes, nines and twenty-sevens; then as many as there are levels.
+    fn coordinate(self, bits: u64) -> u64
+        ensures { result ≡ thirds self.number bits }
+    {
+        let ones = bits & DILATE_MASK_0;
+        let threes = (ones | (ones >> SHIFT_0A) | (ones >> SHIFT_0B)) & DILATE_MASK_1;
+        let nines = (threes | (threes >> SHIFT_1A) | (threes >> SHIFT_1B)) & DILATE_MASK_2;
+        let length_mask = (1u64 << self.number) - 1;
+        (nines | (nines >> SHIFT_2A) | (nines >> SHIFT_2B)) & length_mask
+    }
+
+    // The center of a cell on the axis whose bits are every third one of `bits`.
+    fn center_on(self, bits: u64) -> f32
+        ensures { result ≡ center_at (thirds self.number bits) self.number }
+    {
+        let size = self.half_size();
+        let size2 = size * 2.0;
+        (self.coordinate(bits) as f32) * size2 + size
+    }
 }
 
 // The distance from the center of the key's cell to its faces.
-pub fn half_size(key: u64) -> Length
+#[tactic(auto, using(morton::proofs::TopBit::level_in_le))]
+pub fn half_size(key: u64) -> Result<f32, BadKey>
     ensures { result ≡ half_size_of key }
 {
-    if !is_good(key) {
-        return Length::Refused;
-    }
-    Length::Is(half_size_at(level_in(key)))
-}
-
-// Every third bit, moved together by threes, nines and twenty-sevens; then as many as there are levels.
-fn coordinate(bits: u64, level: u32) -> u64
-    requires { level ≤ 21 }
-    ensures { result ≡ thirds level bits }
-{
-    let ones = bits & DILATE_MASK_0;
-    let threes = (ones | (ones >> SHIFT_0A) | (ones >> SHIFT_0B)) & DILATE_MASK_1;
-    let nines = (threes | (threes >> SHIFT_1A) | (threes >> SHIFT_1B)) & DILATE_MASK_2;
-    let length_mask = (1u64 << level) - 1;
-    (nines | (nines >> SHIFT_2A) | (nines >> SHIFT_2B)) & length_mask
-}
-
-// The center of a cell on the axis whose bits are every third one of `bits`.
-fn center_on(bits: u64, level: u32) -> f32
-    requires { level ≤ 21 }
-    ensures { result ≡ center_at (thirds level bits) level }
-{
-    let size = half_size_at(level);
-    let size2 = size * 2.0;
-    (coordinate(bits, level) as f32) * size2 + size
+    let level = Level {
+        number: level(key)?,
+    };
+    Ok(level.half_size())
 }
 
 // The center of the key's cell, in the cube of side 1 that is the root's.
-pub fn center(key: u64) -> Point
+#[tactic(auto, using(morton::proofs::TopBit::level_in_le))]
+pub fn center(key: u64) -> Result<Vec3, BadKey>
     ensures { result ≡ center_of key }
 {
-    if !is_good(key) {
-        return Point::Refused;
-    }
-    let level = level_in(key);
-    let x = center_on(key, level);
-    let y = center_on(key >> 1, level);
-    let z = center_on(key >> 2, level);
-    Point::At(Vec3 { x, y, z })
+    let level = Level {
+        number: level(key)?,
+    };
+    let x = level.center_on(key);
+    let y = level.center_on(key >> 1);
+    let z = level.center_on(key >> 2);
+    Ok(Vec3 { x, y, z })
 }

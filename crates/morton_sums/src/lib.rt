@@ -22,9 +22,9 @@ const DILATE_T3: u64 = 0x6DB6_DB6D_B6DB_6DB6; // all but DILATE_TX
 pub fn sum(a: u64, b: u64) -> u64
     ensures { result ≡ sum_of a b }
 {
-    let z = std::num::wrapping_add_u64(a | DILATE_T1, b & DILATE_TZ) & DILATE_TZ;
-    let y = std::num::wrapping_add_u64(a | DILATE_T2, b & DILATE_TY) & DILATE_TY;
-    let x = std::num::wrapping_add_u64(a | DILATE_T3, b & DILATE_TX) & DILATE_TX;
+    let z = (a | DILATE_T1).wrapping_add(b & DILATE_TZ) & DILATE_TZ;
+    let y = (a | DILATE_T2).wrapping_add(b & DILATE_TY) & DILATE_TY;
+    let x = (a | DILATE_T3).wrapping_add(b & DILATE_TX) & DILATE_TX;
     z | y | x
 }
 
@@ -32,8 +32,8 @@ pub fn sum(a: u64, b: u64) -> u64
 pub fn difference(a: u64, b: u64) -> u64
     ensures { result ≡ difference_of a b }
 {
-    let z = std::num::wrapping_sub_u64(a & DILATE_TZ, b & DILATE_TZ) & DILATE_TZ;
-    let y = std::num::wrapping_sub_u64(a & DILATE_TY, b & DILATE_TY) & DILATE_TY;
-    let x = std::num::wrapping_sub_u64(a & DILATE_TX, b & DILATE_TX) & DILATE_TX;
+    let z = (a & DILATE_TZ).wrapping_sub(b & DILATE_TZ) & DILATE_TZ;
+    let y = (a & DILATE_TY).wrapping_sub(b & DILATE_TY) & DILATE_TY;
+    let x = (a & DILATE_TX).wrapping_sub(b & DILATE_TX) & DILATE_TX;
     z | y | x
 }

@@ -9,6 +9,7 @@ ghost use Rattle.positions.specs.Position.{step_of, corner_of, point_of, vertex_
 use marching_cubes_impl::vertex::Vertex;
 
 // The step of a grid of size n.
+#[tactic(auto, using(marching_cubes_impl::proofs::Constants::one_bits), unfolding(crate::specs::Position::step_of))]
 pub fn step(n: u32) -> f32
     requires { (2 ≤ n) × (n ≤ 512) }
     ensures { result ≡ step_of n }
@@ -17,6 +18,7 @@ pub fn step(n: u32) -> f32
 }
 
 // The coordinate of the whole number k, for the step h.
+#[tactic(auto, unfolding(crate::specs::Position::corner_of))]
 pub fn corner_coordinate(k: u32, h: f32) -> f32
     requires { k ≤ 512 }
     ensures { result ≡ corner_of k h }

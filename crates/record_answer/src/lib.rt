@@ -7,9 +7,10 @@ ghost use Rattle.std.specs.Prelude.{◌≡◌};
 ghost use Rattle.sample_record.specs.Record.{record_of};
 ghost use Rattle.record_answer.specs.Record.{record_answer};
 
-use sample_record::Record;
+use refusals::Refusal;
+use sample_record::Header;
 
-// A field that the cause does not use is 0.
+// The C interface: a field that the cause does not use is 0.
 #[repr(C)]
 #[derive(Clone, Copy)]
 pub struct RecordAnswer {
@@ -19,14 +20,24 @@ pub struct RecordAnswer {
     pub numbering: u32,
 }
 
-fn refused(cause: u32, place: usize) -> RecordAnswer
-    ensures { result ≡ record { cause = cause; place = place; size = 0; numbering = 0 } }
-{
-    RecordAnswer {
-        cause,
-        place: place as u64,
-        size: 0,
-        numbering: 0,
+impl From<Result<Header, Refusal>> for RecordAnswer {
+    ghost from_gives = { λ found answer. answer ≡ record_answer found };
+
+    fn from(found: Result<Header, Refusal>) -> Self {
+        match found {
+            Ok(header) => RecordAnswer {
+                cause: 0,
+                place: 0,
+                size: header.size,
+                numbering: header.numbering.word(),
+            },
+            Err(refusal) => RecordAnswer {
+                cause: refusal.cause(),
+                place: refusal.place(),
+                size: 0,
+                numbering: 0,
+            },
+        }
     }
 }
 
@@ -35,17 +46,5 @@ fn refused(cause: u32, place: usize) -> RecordAnswer
 pub fn record_answer(bytes: &[u8], limit: u16) -> RecordAnswer
     ensures { result ≡ record_answer (record_of limit bytes.now) }
 {
-    let answer = sample_record::record_in(bytes, limit);
-    match answer {
-        Record::Holds { size, numbering } => RecordAnswer {
-            cause: 0,
-            place: 0,
-            size,
-            numbering,
-        },
-        Record::Malformed(at) => refused(8, at),
-        Record::BadSize => refused(1, 0),
-        Record::BadNumbering => refused(2, 0),
-        Record::BadCount => refused(3, 0),
-    }
+    RecordAnswer::from(sample_record::record_in(bytes, limit))
 }

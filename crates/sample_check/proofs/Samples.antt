@@ -1,6 +1,6 @@
 -- The flag pass and the search for the lowest bad sample, one sample more, and what the two answers say of each other.
 use mathlib.Core.Path.{◌≡◌, refl, sym, ap, ap₂, ◌∙◌}
-use mathlib.Core.Bool.{Bool, true, false, cond, not, ◌&&◌, ◌||◌}
+use mathlib.Core.Bool.{Bool, true, false, cond, not, ◌||◌}
 use mathlib.Core.Logic.{⊎_elim}
 use mathlib.Core.List.{List, [], ◌∷◌, ◌++◌}
 use Prim.Native.Nat.{ℕ, zero, suc, ◌+◌, ◌≤◌, ◌<◌}
@@ -8,13 +8,16 @@ use native.Mathlib.Nat.{not-suc-le-zero, le_of_suc-le-suc}
 use native.Mathlib.Numerals.{add-one}
 use native.Mathlib.Omega.{arith}
 use lib.Dec.{ltb}
-use lib.ListN.{length, get_or, take, drop, drop_of_length-le}
-use lib.Seq.{take-suc, take_all, drop-cons}
+use lib.ListN.{length, get_or, take}
+use lib.Seq.{take-suc}
 use borrow.Author.Tests.{ltb-false, not-false, lt-ltb, le-ltb}
-use lib.Ieee.{Float, nan, binary32, le, neg, of_bits}
+use lib.Ieee.{Float, nan}
 use Rattle.marching_cubes_tables.proofs.Tests.{lt-or-ge}
 use Rattle.marching_cubes_impl.specs.Sample.{good}
-use Rattle.marching_cubes_impl.proofs.Limit.{limit, good-comparisons}
+use Rattle.std.specs.Prelude.{position, Some, None}
+use Rattle.std.specs.List.{prefix_len}
+use Rattle.std.proofs.lemmas.Bool.Decides.{nat_tests}
+use Rattle.std.specs.Bool.{then_some}
 use Rattle.walk.proofs.Bools.{or-none-left, or-none-right}
 use Rattle.sample_check.specs.Samples.{any_bad, lowest_bad}
 
@@ -33,49 +36,23 @@ any_bad-snoc (u ∷ vs) v = ap (λ (b : Bool). not (good u) || b) (any_bad-snoc 
     joined true b c = refl
     joined false b c = refl
 
--- the code's two comparisons
-abbrev pub in_range : Float → Bool
-in_range v = le v (of_bits binary32 0x7e80_0000) && le (neg (of_bits binary32 0x7e80_0000)) v
-
-in_range-good : (v : Float) → in_range v ≡ good v
-unfolding of_bits
-in_range-good v = both (le v limit) (le (neg limit) v) ∙ good-comparisons v
-  where
-    both : (a b : Bool) → (a && b) ≡ cond a b false
-    both true b = refl
-    both false b = refl
-
-pub flag-suc : (samples : List Float) (i : ℕ) (bad : Bool) → i < length samples → bad ≡ any_bad (take i samples)
-    → (bad || not (in_range (get_or samples i nan))) ≡ any_bad (take (i + 1) samples)
-flag-suc samples i bad h e =
-    let v = get_or samples i nan in
-    ap₂ (λ (x b : Bool). x || not b) e (in_range-good v)
-    ∙ sym (any_bad-snoc (take i samples) v)
+pub flag_suc : (samples : List Float) (i : ℕ) → i < length samples
+    → (any_bad (take i samples) || not (good (get_or samples i nan))) ≡ any_bad (take (i + 1) samples)
+flag_suc samples i h =
+    sym (any_bad-snoc (take i samples) (get_or samples i nan))
     ∙ ap any_bad (sym (take-suc samples i nan h) ∙ ap (λ (k : ℕ). take k samples) (sym (add-one i)))
-
-pub flag-end : (samples : List Float) (i : ℕ) (bad : Bool) → length samples ≤ i → bad ≡ any_bad (take i samples) → bad ≡ any_bad samples
-flag-end samples i bad h e = e ∙ ap any_bad (take_all i samples h)
 
 -- ---- the search
 
-module _ (samples : List Float) (i : ℕ) (within : i < length samples) where
-  pub lowest_bad-good : good (get_or samples i nan) ≡ true → i + lowest_bad (drop i samples) ≡ i + 1 + lowest_bad (drop (i + 1) samples)
-  unfolding lowest_bad
-  lowest_bad-good h =
-      let here : lowest_bad (drop i samples) ≡ suc (lowest_bad (drop (i + 1) samples)) = rw (drop-cons samples i nan within, h, add-one) in
-      omega arith
-
-  pub lowest_bad-bad : good (get_or samples i nan) ≡ false → i + lowest_bad (drop i samples) ≡ i
-  unfolding lowest_bad
-  lowest_bad-bad h =
-      let here : lowest_bad (drop i samples) ≡ 0 = rw (drop-cons samples i nan within, h) in
-      omega arith
-
-pub lowest_bad-end : (samples : List Float) (i : ℕ) → length samples ≤ i → i + lowest_bad (drop i samples) ≡ lowest_bad samples → i ≡ lowest_bad samples
-unfolding lowest_bad
-lowest_bad-end samples i h e =
-    let none : lowest_bad (drop i samples) ≡ 0 = rw (drop_of_length-le samples h) in
-    omega arith
+pub position_bad : (samples : List Float) → position (λ v. not (good v)) samples ≡ then_some (any_bad samples) (lowest_bad samples)
+unfolding any_bad lowest_bad
+position_bad [] = refl
+position_bad (v ∷ vs) = among (good v) (any_bad vs) (lowest_bad vs) (prefix_len (λ x. not (not (good x))) vs) (length vs) (position_bad vs)
+  where
+    among : (b c : Bool) (k p l : ℕ) → cond (ltb p l) (Some p) None ≡ then_some c k
+        → cond (ltb (cond (not (not b)) (1 + p) 0) (suc l)) (Some (cond (not (not b)) (1 + p) 0)) None ≡ then_some (not b || c) (cond b (suc k) 0)
+    among true c k p l h = grind (arith, nat_tests)
+    among false c k p l h = grind (arith, nat_tests)
 
 -- ---- together
 

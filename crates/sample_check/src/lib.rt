@@ -3,13 +3,12 @@
 
 #![tactic(auto)]
 
-ghost use Rattle.std.specs.Prelude.{◌≡◌};
+ghost use Rattle.std.specs.Prelude.{◌≡◌, not, position};
+ghost use Rattle.std.specs.Bool.{then_some};
+ghost use Rattle.marching_cubes_impl.specs.Sample.{good};
 ghost use Rattle.sample_check.specs.Samples.{any_bad, lowest_bad};
 
 use marching_cubes_impl::edge::is_good;
-
-// 2 to the 126.
-const LIMIT: f32 = 85070591730234615865843651857942052864.0;
 
 // Whether a sample is refused. Every sample is looked at and the loop has one way out, so that it
 // can take several at a time.
@@ -17,26 +16,27 @@ pub fn any_bad(samples: &[f32]) -> bool
     ensures { result ≡ any_bad samples.now }
 {
     let mut bad = false;
-    let mut i: usize = 0;
-    while i < samples.len() {
-        let v = samples[i];
-        let good = (v <= LIMIT) & (-LIMIT <= v);
-        bad = bad | !good;
-        i += 1;
+    for sample in samples {
+        bad |= !is_good(*sample);
     }
     bad
 }
 
-// The place of the first sample that is refused, or the number of samples.
-pub fn lowest_bad(samples: &[f32]) -> usize
-    ensures { result ≡ lowest_bad samples.now }
+// The place of the first sample that is not good.
+fn first_bad(samples: &[f32]) -> Option<usize>
+    ensures { result ≡ position (λ v. not (good v)) samples.now }
 {
-    let mut i: usize = 0;
-    while i < samples.len() {
-        if !is_good(samples[i]) {
-            return i;
-        }
-        i += 1;
+    samples.iter().position(|sample| !is_good(*sample))
+}
+
+// The place of the first sample that is refused, if there is one. It is looked for only where there is.
+#[tactic(auto, using(crate::proofs::Samples::position_bad))]
+pub fn lowest_bad(samples: &[f32]) -> Option<usize>
+    ensures { result ≡ then_some (any_bad samples.now) (lowest_bad samples.now) }
+{
+    if any_bad(samples) {
+        first_bad(samples)
+    } else {
+        None
     }
-    i
 }

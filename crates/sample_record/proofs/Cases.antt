@@ -7,8 +7,11 @@ use Prim.Native.Nat.{ℕ, ◌/◌, ◌%◌}
 use lib.IntN.{pos, negsuc}
 use lib.ListN.{replicate, take}
 use lib.Ieee.{Float, nan, fin, of_bits}
-use Rattle.sample_record.specs.declared.Record.{Record}
-use Rattle.sample_record.specs.declared.Record.TheVariants.{Holds, Malformed, BadSize, BadNumbering, BadCount}
+use Rattle.std.specs.Prelude.{Result, Ok, Err}
+use Rattle.refusals.specs.declared.Refusal.{Refusal}
+use Rattle.refusals.specs.declared.Refusal.TheVariants.{Size, Numbering, SampleCount, Malformed}
+use Rattle.numbering.specs.declared.Numbering.TheVariants.{Crate, Joined}
+use Rattle.sample_record.specs.declared.Header.{Header}
 use Rattle.little_endian.specs.Words.{word_at}
 use Rattle.sample_record.specs.Record.{record_of, cause_of, place_of, size_of, numbering_of}
 use Rattle.record_samples.specs.Samples.{samples_of}
@@ -35,7 +38,7 @@ data Case : Type 0 where
 
 -- cause, place, size and numbering
 data Answer : Type 0 where
-  is_record : Record → Answer
+  is_record : Result Header Refusal → Answer
   is_numbers : ℕ → ℕ → ℕ → ℕ → Answer
   is_samples : List Float → Answer
 
@@ -86,27 +89,27 @@ cases : map answer (
     -- 1.0, the least value above 0, minus zero, a NaN, and three bytes that are no sample
     samples (take 20 (grid 0) ++ 0 ∷ 0 ∷ 128 ∷ 63 ∷ 1 ∷ 0 ∷ 0 ∷ 0 ∷ 0 ∷ 0 ∷ 0 ∷ 128 ∷ 1 ∷ 0 ∷ 128 ∷ 255 ∷ 7 ∷ 7 ∷ 7 ∷ []) ∷
     []) ≡
-    is_record (Holds 2 0) ∷
-    is_record (Holds 2 1) ∷
-    is_record (Malformed 0) ∷
-    is_record (Malformed 19) ∷
-    is_record (Malformed 0) ∷
-    is_record (Malformed 0) ∷
-    is_record BadSize ∷
-    is_record BadSize ∷
-    is_record BadNumbering ∷
-    is_record BadCount ∷
-    is_record (Malformed 16) ∷
-    is_record (Malformed 20) ∷
-    is_record (Malformed 20) ∷
-    is_record (Malformed 0) ∷
-    is_record BadSize ∷
-    is_record BadNumbering ∷
-    is_record BadCount ∷
-    is_record (Malformed 16) ∷
-    is_record BadNumbering ∷
-    is_record BadSize ∷
-    is_record BadNumbering ∷
+    is_record (Ok (record { size = 2; numbering = Crate })) ∷
+    is_record (Ok (record { size = 2; numbering = Joined })) ∷
+    is_record (Err (Malformed 0)) ∷
+    is_record (Err (Malformed 19)) ∷
+    is_record (Err (Malformed 0)) ∷
+    is_record (Err (Malformed 0)) ∷
+    is_record (Err Size) ∷
+    is_record (Err Size) ∷
+    is_record (Err Numbering) ∷
+    is_record (Err SampleCount) ∷
+    is_record (Err (Malformed 16)) ∷
+    is_record (Err (Malformed 20)) ∷
+    is_record (Err (Malformed 20)) ∷
+    is_record (Err (Malformed 0)) ∷
+    is_record (Err Size) ∷
+    is_record (Err Numbering) ∷
+    is_record (Err SampleCount) ∷
+    is_record (Err (Malformed 16)) ∷
+    is_record (Err Numbering) ∷
+    is_record (Err Size) ∷
+    is_record (Err Numbering) ∷
     is_numbers 0 0 2 1 ∷
     is_numbers 8 19 0 0 ∷
     is_numbers 1 0 0 0 ∷

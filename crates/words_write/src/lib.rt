@@ -1,36 +1,19 @@
-// Runs of little-endian words into lent bytes, from words or from floats. Callers have tested that the
+// Runs of little-endian words into lent bytes, from u32 or from floats. Callers have tested that the
 // bytes are there.
 
 #![tactic(auto)]
 
-ghost use Rattle.std.specs.Prelude.{◌≡◌, map, ◌+◌, ◌*◌, ◌≤◌, length};
-ghost use Rattle.std.proofs.lemmas.List.Edits.{sets};
-ghost use Rattle.std.specs.Float.{binary32};
-ghost use Rattle.std.specs.Float.Ieee.{to_bits};
-ghost use Rattle.little_endian.specs.Words.{bytes_of};
+ghost use Rattle.std.specs.Prelude.{◌≡◌, map, ◌*◌, ◌≤◌, length};
+ghost use Rattle.little_endian.specs.Words.{bytes_of, over};
 
-use little_endian::{bits_of, put_word};
+use little_endian::{Word, put_word};
 
-// The bytes of words from a byte place on.
-pub fn put_words(bytes: &mut [u8], at: usize, list: &[u32])
-    requires { at + 4 * length list.now ≤ length bytes.old }
-    ensures { bytes.new ≡ sets bytes.old at (bytes_of list.now) }
+// The bytes of words, at the front of those that are lent. The bytes after them stay as they were.
+pub fn put_words<W: Word>(bytes: &mut [u8], list: &[W])
+    requires { 4 * length list.now ≤ length bytes.old }
+    ensures { bytes.new ≡ over (bytes_of (map W.to_word list.now)) bytes.old }
 {
-    let mut i = 0;
-    while i < list.len() {
-        put_word(bytes, at + 4 * i, list[i]);
-        i += 1;
-    }
-}
-
-// The same, of the bits of floats.
-pub fn put_floats(bytes: &mut [u8], at: usize, list: &[f32])
-    requires { at + 4 * length list.now ≤ length bytes.old }
-    ensures { bytes.new ≡ sets bytes.old at (bytes_of (map (to_bits binary32) list.now)) }
-{
-    let mut i = 0;
-    while i < list.len() {
-        put_word(bytes, at + 4 * i, bits_of(list[i]));
-        i += 1;
+    for (i, word) in list.iter().enumerate() {
+        put_word(bytes, 4 * i, word.to_word());
     }
 }

@@ -1,15 +1,12 @@
--- `put_word`: four stores in a row are the word's bytes from the first place on.
-use Rattle.little_endian.proofs.Bytes.{put_four, second-within, third-within, fourth-within}
+-- `put_word`: the four bytes stand over those from the place on.
+use Rattle.std.proofs.Common.{◌+◌, ◌-◌, refl, sym, ◌∙◌, arith}
+use Rattle.std.proofs.lemmas.Slice.{put_mid-paste}
+use Rattle.std.proofs.lemmas.List.Edits.{sets-eq}
+use Rattle.little_endian.specs.Words.{word_bytes}
 use Rattle.little_endian.proofs.put_word.Goals as goal
 
-pub bounds-bytes-at-2 : goal.bounds-bytes-at-2
-bounds-bytes-at-2 c = second-within c.args.bytes.now c.args.at c.args.value c.requires
-
-pub bounds-bytes-at-3 : goal.bounds-bytes-at-3
-bounds-bytes-at-3 c = third-within c.args.bytes.now c.args.at c.args.value c.requires
-
-pub bounds-bytes-at-4 : goal.bounds-bytes-at-4
-bounds-bytes-at-4 c = fourth-within c.args.bytes.now c.args.at c.args.value c.requires
-
 pub returns : goal.returns
-returns c = put_four c.args.bytes.now c.args.at c.args.value
+unfolding word_bytes
+returns c =
+    put_mid-paste c.args.at (c.args.at + 4 - c.args.at) c.args.bytes.now c.copy_from_slice.new.self (word_bytes c.args.value) 4
+    (c.copy_from_slice.ensures.after ∙ c.to_le_bytes.ensures) (omega arith) refl ∙ sym (sets-eq (word_bytes c.args.value) c.args.bytes.now c.args.at c.requires)

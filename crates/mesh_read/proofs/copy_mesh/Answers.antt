@@ -1,21 +1,29 @@
 -- `copy_mesh`: both rooms are tried before anything is written; then one copy each.
-use native.Mathlib.Omega.{arith}
-use Rattle.mesh_read.proofs.Copies.{few-coordinates, few-indices, enough-room}
+use Rattle.std.proofs.Common.{ℕ, ◌+◌, ◌*◌, List, ap, ◌∙◌, arith}
+use Rattle.std.proofs.lemmas.List.{map-id}
+use Rattle.std.specs.Float.{binary32}
+use Rattle.std.specs.Float.Ieee.{of_bits}
+use Rattle.little_endian.specs.Words.{words_from, over}
+use Rattle.words_read.proofs.Parts.{copied_front}
+use Rattle.mesh_read.proofs.Copies.{little-room, enough-room}
 use Rattle.mesh_read.proofs.copy_mesh.Goals as goal
 
 pub returns-then-coordinates-vertices : goal.returns-then-coordinates-vertices
 returns-then-coordinates-vertices c =
-    few-coordinates c.args.bytes.now c.args.coordinates.now c.args.indices.now c.requires
-    c.word_at-vertices.result c.word_at-count.result c.word_at-vertices.ensures c.word_at-count.ensures c.short.result c.short.ensures (omega arith)
-
-pub returns-then-indices-count : goal.returns-then-indices-count
-returns-then-indices-count c =
-    few-indices c.args.bytes.now c.args.coordinates.now c.args.indices.now c.requires
-    c.word_at-vertices.result c.word_at-count.result c.word_at-vertices.ensures c.word_at-count.ensures c.short-then-indices-count.result c.short-then-indices-count.ensures (omega arith) (omega arith)
+    little-room c.args.bytes.now c.args.coordinates.now c.args.indices.now c.requires
+    c.word_at-vertices.result c.word_at-count.result c.word_at-vertices.ensures c.word_at-count.ensures
+    c.short.result c.short.ensures c.then-coordinates-vertices.either
 
 pub returns : goal.returns
 returns c =
-    enough-room c.args.bytes.now c.args.coordinates.now c.args.indices.now c.requires
-    c.word_at-vertices.result c.word_at-count.result c.word_at-vertices.ensures c.word_at-count.ensures
-    c.word_at.result c.word_at-2.result _ _ c.word_at.ensures c.word_at-2.ensures
-    c.copy_floats.ensures c.copy_words.ensures (omega arith) (omega arith)
+    let bytes = c.args.bytes.now in
+    let coordinates = c.args.coordinates.now in
+    let indices = c.args.indices.now in
+    let vertices = c.word_at-vertices.result in
+    let count = c.word_at-count.result in
+    let f = of_bits binary32 in
+    let first = copied_front f bytes coordinates c.copy_words.new.buffer 28 (3 * vertices) (omega arith) (omega arith) c.copy_words.ensures in
+    let second = copied_front (λ (word : ℕ). word) bytes indices c.copy_words-2.new.buffer (28 + 12 * vertices) count (omega arith) (omega arith) c.copy_words-2.ensures
+    ∙ ap (λ (l : List ℕ). over l indices) (map-id (words_from bytes (28 + 12 * vertices) count)) in
+    enough-room bytes coordinates indices c.requires vertices count c.word_at-vertices.ensures c.word_at-count.ensures
+    c.word_at.result c.word_at-2.result _ _ c.word_at.ensures c.word_at-2.ensures first second (omega arith) (omega arith)

@@ -1,17 +1,14 @@
--- `samples::copy_samples`: where there is a sample to copy, the bytes have the run that is copied.
-use mathlib.Core.Path.{◌∙◌}
-use native.Mathlib.Omega.{arith}
-use Rattle.record_samples.proofs.Copy.{copied_none, copied-run, run-within}
+-- `copy_samples`: the words after the header, as many as fit.
+use Rattle.std.proofs.Common.{◌≡◌, length, take, drop, refl, length-take, arith}
+use Rattle.record_samples.proofs.Copy.{after_header, copied-run}
 use Rattle.record_samples.proofs.copy_samples.Goals as goal
 
-pub returns-then-count-eq0 : goal.returns-then-count-eq0
-returns-then-count-eq0 c = copied_none c.args.bytes.now c.args.buffer.now c.copied_count-count.result c.copied_count-count.ensures c.if-count-eq0.true
-
-pub copy_floats-requires : goal.copy_floats-requires
-copy_floats-requires c = (
-  run-within c.args.bytes.now c.args.buffer.now c.copied_count-count.result c.copied_count-count.ensures c.if-count-eq0.false,
-  omega (arith, c.copied_count-count.ensures),
-)
-
 pub returns : goal.returns
-returns c = c.copy_floats.ensures ∙ copied-run c.args.bytes.now c.args.buffer.now c.copied_count-count.result c.copied_count-count.ensures
+returns c =
+    let bytes = c.args.bytes.now in
+    let buffer = c.args.buffer.now in
+    let samples = c.unwrap_or-samples.result.now in
+    let count = c.min-count.result in
+    let after : samples ≡ drop 20 bytes = after_header bytes c.get.result _ c.unwrap_or-samples.result c.get.ensures.lookup refl c.unwrap_or-samples.ensures in
+    let whole : length (take count buffer) ≡ count = omega (arith, c.min-count.ensures, length-take count buffer) in
+    copied-run bytes samples buffer c.copy_words.new.buffer count (length (take count buffer)) after c.min-count.ensures whole c.copy_words.ensures

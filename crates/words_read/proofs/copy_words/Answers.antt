@@ -1,33 +1,27 @@
 -- `copy_words`: after i turns the front of the buffer has the first i words, and the rest is as it was.
-use mathlib.Core.Path.{◌≡◌, refl, sym, ◌∙◌}
-use Prim.Native.Nat.{◌<◌}
-use native.Mathlib.Omega.{arith}
-use lib.ListN.{length}
+use Rattle.std.proofs.Common.{◌≡◌, ◌<◌, map, length, arith}
 use Rattle.little_endian.specs.Words.{words_from}
-use Rattle.little_endian.proofs.Runs.{words_from-length, words_from-at}
-use Rattle.words_read.proofs.Turns.{copied_to-end, copied_next}
-use borrow.Author.Rules.{rules}
+use Rattle.words_read.proofs.Turns.{copied_to-end, copied_next, copied-length, copied-at}
 use Rattle.words_read.proofs.copy_words.Goals as goal
 
-pub loop-i-init : goal.loop-i-init
-loop-i-init c = (search rules, refl, refl)
-
 pub loop-i-preserved : goal.loop-i-preserved
-loop-i-preserved c =
+loop-i-preserved g c =
     let bytes = c.args.bytes.now in
-    let at = c.args.at in
-    let count = c.args.count in
+    let buffer = c.args.buffer.now in
+    let f = g.W.Word.from_word in
+    let l = map f (words_from bytes 0 (length buffer)) in
     let i = c.loop-i.i in
-    let here : i < count = search rules in
-    let within : i < length (words_from bytes at count) = omega (arith, here, words_from-length bytes at count c.requires.0) in (
-      search rules,
-      copied_next (words_from bytes at count) c.args.buffer.now c.loop-i.buffer i 0 c.word_at.result within (search rules) c.loop-i.invariant.1
-          (c.word_at.ensures ∙ sym (words_from-at bytes at count c.requires.0 i here)),
-      search rules,
-    )
+    let value = c.from_word.result in
+    let within : i < length l = omega (arith, c.loop-i-test.true, copied-length f bytes (length buffer) c.requires) in
+    copied_next l buffer c.loop-i.buffer i value value within c.loop-i-test.true c.loop-i.invariant
+    (copied-at f bytes (length buffer) c.requires i c.word_at.result value c.loop-i-test.true c.word_at.ensures c.from_word.ensures)
 
 pub returns : goal.returns
-returns c =
-    let all : c.loop-i.i ≡ c.args.count = search rules in
-    c.loop-i.invariant.1 ∙ copied_to-end (words_from c.args.bytes.now c.args.at c.args.count) c.args.buffer.now c.loop-i.i
-    (all ∙ sym (words_from-length c.args.bytes.now c.args.at c.args.count c.requires.0))
+returns g c =
+    let bytes = c.args.bytes.now in
+    let buffer = c.args.buffer.now in
+    let f = g.W.Word.from_word in
+    let l = map f (words_from bytes 0 (length buffer)) in
+    let i = c.loop-i.i in
+    let all : i ≡ length l = omega (arith, copied-length f bytes (length buffer) c.requires) in
+    copied_to-end l buffer c.loop-i.buffer i c.loop-i.invariant all c.loop-i-test.false
