@@ -36,6 +36,7 @@ pub fn make_edge(
 
 // One visit: the number that `current` has is written as an index, or the next vertex is made. `current`
 // begins as `found`, for a cell puts nothing into the layer and the row that it reads.
+// An absent number is 0 and no `Option`: it is a word of the lent memory, which `held_visit` reads in that way.
 fn visit(
     cell: Cell,
     parity: Parity,
