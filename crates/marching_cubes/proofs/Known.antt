@@ -1,12 +1,13 @@
--- The two numbering words, and what is refused of any other.
-use mathlib.Core.Path.{◌≡◌, sym, ap, ◌∙◌}
-use mathlib.Core.Bool.{true, false}
+-- The two numbering words, and what is refused of any other; the place of a bad sample.
+use mathlib.Core.Path.{◌≡◌, refl, sym, ap, ◌∙◌}
+use mathlib.Core.Bool.{Bool, true, false}
 use mathlib.Core.Logic.{⊎_elim}
 use Prim.Native.Nat.{ℕ, ◌≤◌, ◌<◌}
 use native.Mathlib.Omega.{arith}
 use lib.Dec.{eqb}
 use borrow.Author.Tests.{eqb-true, eqb-false}
-use Rattle.std.specs.Prelude.{Result, Ok, Err, IsErrAnd, IfErr}
+use Rattle.std.specs.Prelude.{Option, Some, None, Result, Ok, Err, IsErrAnd, IfErr}
+use Rattle.std.specs.Bool.{then_some}
 use Rattle.walk.proofs.Bools.{bool_cases}
 use Rattle.refusals.specs.declared.Refusal.{Refusal}
 use Rattle.refusals.specs.Causes.{cause_of, place_of}
@@ -75,3 +76,19 @@ unknown-word word refusal e =
 pub of-error : {A E : Type 0} {Q P : E → Type 0} (r : Result A E) → IsErrAnd r Q → ((e : E) → Q e → P e) → IfErr r P
 of-error (Ok a) h f = absurd h
 of-error (Err e) h f = f e h
+
+abbrev somewhere : Option ℕ → ℕ
+somewhere (Some place) = 1
+somewhere None = 0
+
+abbrev where_else : Option ℕ → ℕ
+where_else (Some place) = place
+where_else None = 0
+
+pub bad-at : (bad : Bool) (place at : ℕ) → then_some {T = ℕ} bad place ≡ Some at → (bad ≡ true) × (place ≡ at)
+bad-at true place at e = (refl, ap where_else e)
+bad-at false place at e = let no : 0 ≡ 1 = ap (λ (o : Option ℕ). somewhere o) e in absurd (omega (arith, no))
+
+pub none-bad : (bad : Bool) (place : ℕ) → then_some {T = ℕ} bad place ≡ None → bad ≡ false
+none-bad true place e = let no : 1 ≡ 0 = ap (λ (o : Option ℕ). somewhere o) e in absurd (omega (arith, no))
+none-bad false place e = refl

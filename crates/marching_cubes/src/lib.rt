@@ -87,8 +87,8 @@ fn checked(size: u32, numbering: u32, samples: &[f32], work: &[u32]) -> Result<N
     if work.len() < passes::work_room(n) {
         return Err(Refusal::WorkingMemory);
     }
-    if sample_check::any_bad(samples) {
-        return Err(Refusal::Sample(sample_check::lowest_bad(samples) as u64));
+    if let Some(at) = sample_check::lowest_bad(samples) {
+        return Err(Refusal::Sample(at as u64));
     }
     Ok(known)
 }
