@@ -37,8 +37,8 @@ pub fn crate_cell(
     requires cache_room { CacheRoom cell.n work.old }
     requires rows_value { (rows.now ≡ row_words) × (regulars.now ≡ regular_words) × (case ≡ signs (inside_of cell.n cell.samples.now) cell.x cell.y cell.z) }
     requires written_fits { counts.written + 15 < 2 ^ 32 }
-    ensures result_after { in_hand (at_border work.new parity.layer parity.row) vertices.new indices.new result
-        ≡ walked_cell (lent_hooks (crate_memory cell.entry.n) (store_at cell.entry.n cell.entry.samples.now)) (inside_of cell.entry.n cell.entry.samples.now) cell.entry.n cell.entry.z cell.entry.y cell.entry.x
+    ensures result_after { let at = cell.entry in in_hand (at_border work.new parity.layer parity.row) vertices.new indices.new result
+        ≡ walked_cell (lent_hooks (crate_memory at.n) (store_at at.n at.samples.now)) (inside_of at.n at.samples.now) at.n at.z at.y at.x
         (in_hand (at_border work.old parity.layer parity.row) vertices.old indices.old counts) }
     ensures written_bound { result.written ≤ counts.written + 15 }
 {

@@ -26,8 +26,8 @@ pub fn make_edge(
 )
     requires cache_room { CacheRoom cell.n work.old }
     requires edge_bound { edge < 12 }
-    ensures { (is : List ℕ) (m w : ℕ) → hand (in_cell work.new parity.layer parity.row current.new) vertices.new is m w
-        ≡ number_edge cell.entry.n cell.entry.samples.now cell.entry.x cell.entry.y cell.entry.z edge number (hand (in_cell work.old parity.layer parity.row current.old) vertices.old is m w) }
+    ensures { let at = cell.entry in (is : List ℕ) (m w : ℕ) → hand (in_cell work.new parity.layer parity.row current.new) vertices.new is m w
+        ≡ number_edge at.n at.samples.now at.x at.y at.z edge number (hand (in_cell work.old parity.layer parity.row current.old) vertices.old is m w) }
 {
     index_cache::put(work, cell.n, cell.x, cell.y, parity, edge, number);
     current[edge] = number;
@@ -36,6 +36,7 @@ pub fn make_edge(
 
 // One visit: the number that `current` has is written as an index, or the next vertex is made. `current`
 // begins as `found`, for a cell puts nothing into the layer and the row that it reads.
+// An absent number is 0 and no `Option`: it is a word of the lent memory, which `held_visit` reads in that way.
 fn visit(
     cell: Cell,
     parity: Parity,
@@ -49,8 +50,8 @@ fn visit(
     requires cache_room { CacheRoom cell.n work.old }
     requires edge_bound { edge < 12 }
     requires written_fits { counts.written + 1 < 2 ^ 32 }
-    ensures result_after { in_hand (in_cell work.new parity.layer parity.row current.new) vertices.new indices.new result
-        ≡ held_visit cell.entry.n cell.entry.samples.now cell.entry.x cell.entry.y cell.entry.z edge (in_hand (in_cell work.old parity.layer parity.row current.old) vertices.old indices.old counts) }
+    ensures result_after { let at = cell.entry in in_hand (in_cell work.new parity.layer parity.row current.new) vertices.new indices.new result
+        ≡ held_visit at.n at.samples.now at.x at.y at.z edge (in_hand (in_cell work.old parity.layer parity.row current.old) vertices.old indices.old counts) }
     ensures written_value { result.written ≡ counts.written + 1 }
 {
     let number = current[edge];
@@ -78,19 +79,16 @@ pub fn visit_all(
     work: &mut [u32],
     vertices: &mut [f32],
     indices: &mut [u32],
-    counts: Counts,
+    mut counts: Counts,
 ) -> Counts
     requires cache_room { CacheRoom cell.n work.old }
     requires written_fits { counts.written + edges.count < 2 ^ 32 }
-    ensures result_after { in_hand (in_cell work.new parity.layer parity.row current.new) vertices.new indices.new result
-        ≡ held_edges cell.entry.n cell.entry.samples.now cell.entry.x cell.entry.y cell.entry.z (edges_left edges) (in_hand (in_cell work.old parity.layer parity.row current.old) vertices.old indices.old counts) }
+    ensures result_after { let at = cell.entry in in_hand (in_cell work.new parity.layer parity.row current.new) vertices.new indices.new result
+        ≡ held_edges at.n at.samples.now at.x at.y at.z (edges_left edges) (in_hand (in_cell work.old parity.layer parity.row current.old) vertices.old indices.old counts) }
     ensures written_value { result.written ≡ counts.written + edges.count }
 {
-    let mut reached = counts;
     for edge in edges {
-        reached = visit(
-            cell, parity, edge, current, work, vertices, indices, reached,
-        );
+        counts = visit(cell, parity, edge, current, work, vertices, indices, counts);
     }
-    reached
+    counts
 }

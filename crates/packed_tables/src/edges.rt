@@ -1,4 +1,5 @@
-// The edges that a word of a table holds, one after the other or three at a time, so that a walk goes over them with `for`.
+// The edges that a word of a table holds, one after the other or three at a time, so that a walk goes over them with
+// `for`; and how the numbers of a row's edges become indices, the same in both numberings.
 
 ghost use Rattle.std.specs.Prelude.{◌≡◌, ◌*◌};
 ghost use Rattle.packed_tables.specs.Unpacked.{unpacked, Edges, edges-prop};

@@ -24,8 +24,8 @@ fn make_named(
 )
     requires cache_room { CacheRoom cell.n work.old }
     requires edge_bound { (edge < 12) × (made + 15 < 2 ^ 32) }
-    ensures { (is : List ℕ) (m w : ℕ) → hand (in_cell work.new parity.layer parity.row current.new) vertices.new is m w
-        ≡ named_edge cell.entry.n cell.entry.samples.now cell.entry.x cell.entry.y cell.entry.z regular made edge (hand (in_cell work.old parity.layer parity.row current.old) vertices.old is m w) }
+    ensures { let at = cell.entry in (is : List ℕ) (m w : ℕ) → hand (in_cell work.new parity.layer parity.row current.new) vertices.new is m w
+        ≡ named_edge at.n at.samples.now at.x at.y at.z regular made edge (hand (in_cell work.old parity.layer parity.row current.old) vertices.old is m w) }
 {
     if (regular >> edge) % 2 == 1 {
         let rank = ((regular >> (16 + 4 * edge)) % 16) as u32;
@@ -45,8 +45,8 @@ pub fn make_regular(
 )
     requires cache_room { CacheRoom cell.n work.old }
     requires made_fits { made + 15 < 2 ^ 32 }
-    ensures { (is : List ℕ) (m w : ℕ) → hand (in_cell work.new parity.layer parity.row current.new) vertices.new is m w
-        ≡ regular_edges cell.entry.n cell.entry.samples.now cell.entry.x cell.entry.y cell.entry.z regular made (hand (in_cell work.old parity.layer parity.row current.old) vertices.old is m w) }
+    ensures { let at = cell.entry in (is : List ℕ) (m w : ℕ) → hand (in_cell work.new parity.layer parity.row current.new) vertices.new is m w
+        ≡ regular_edges at.n at.samples.now at.x at.y at.z regular made (hand (in_cell work.old parity.layer parity.row current.old) vertices.old is m w) }
 {
     make_named(cell, parity, regular, 0, made, current, work, vertices);
     make_named(cell, parity, regular, 5, made, current, work, vertices);

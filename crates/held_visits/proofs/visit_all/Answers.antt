@@ -11,11 +11,11 @@ use Rattle.held_visits.specs.CellMemory.{in_cell}
 use Rattle.held_visits.proofs.EdgeVisits.{turn-taken, all-taken}
 use Rattle.held_visits.proofs.visit_all.Goals as goal
 
-pub visit-reached-requires-clause-edge_bound : goal.visit-reached-requires-clause-edge_bound
-visit-reached-requires-clause-edge_bound c = edge-known c.loop-edge.edge-iterator c.in-Some.edge _ c.in-Some.ensures.steps
+pub visit-counts-requires-clause-edge_bound : goal.visit-counts-requires-clause-edge_bound
+visit-counts-requires-clause-edge_bound c = edge-known c.loop-edge.edge-iterator c.in-Some.edge _ c.in-Some.ensures.steps
 
-pub visit-reached-requires-clause-written_fits : goal.visit-reached-requires-clause-written_fits
-visit-reached-requires-clause-written_fits c =
+pub visit-counts-requires-clause-written_fits : goal.visit-counts-requires-clause-written_fits
+visit-counts-requires-clause-written_fits c =
     let one = ap (λ (es : List ℕ). length es) c.in-Some.ensures.steps in
     omega (arith, one, c.loop-edge.invariant.2, unpacked-length c.args.edges.count c.args.edges.word, c.requires.written_fits)
 
@@ -27,15 +27,15 @@ loop-edge-preserved c =
     let one = ap (λ (es : List ℕ). length es) c.in-Some.ensures.steps in (
       tt,
       tt,
-      omega (arith, one, inv.2, c.visit-reached.ensures.written_value),
-      c.visit-reached.auto.work ∙ inv.3,
-      c.visit-reached.auto.vertices ∙ inv.4,
-      c.visit-reached.auto.indices ∙ inv.5,
+      omega (arith, one, inv.2, c.visit-counts.ensures.written_value),
+      c.visit-counts.auto.work ∙ inv.3,
+      c.visit-counts.auto.vertices ∙ inv.4,
+      c.visit-counts.auto.indices ∙ inv.5,
       turn-taken cell.n cell.samples.now cell.x cell.y cell.z c.in-Some.edge (edges_left c.loop-edge.edge-iterator) _ _
-          (in_hand (in_cell c.loop-edge.work args.parity.layer args.parity.row c.loop-edge.current) c.loop-edge.vertices c.loop-edge.indices c.loop-edge.reached)
-          (in_hand (in_cell c.visit-reached.new.work args.parity.layer args.parity.row c.visit-reached.new.current) c.visit-reached.new.vertices c.visit-reached.new.indices c.visit-reached.result)
+          (in_hand (in_cell c.loop-edge.work args.parity.layer args.parity.row c.loop-edge.current) c.loop-edge.vertices c.loop-edge.indices c.loop-edge.counts)
+          (in_hand (in_cell c.visit-counts.new.work args.parity.layer args.parity.row c.visit-counts.new.current) c.visit-counts.new.vertices c.visit-counts.new.indices c.visit-counts.result)
           (in_hand (in_cell args.work.now args.parity.layer args.parity.row args.current.now) args.vertices.now args.indices.now args.counts)
-          c.in-Some.ensures.steps c.visit-reached.ensures.result_after inv.6,
+          c.in-Some.ensures.steps c.visit-counts.ensures.result_after inv.6,
     )
 
 pub returns-clause-result_after : goal.returns-clause-result_after
