@@ -27,7 +27,7 @@ pub struct CellMasks {
 
 // The bits of word k of a row that stand for cells.
 fn mask_of(n: usize, k: usize) -> u32
-    requires { (2 ≤ n) × (n ≤ 128) × (k < 4) }
+    requires { k < 4 }
     ensures { (j : ℕ) → j < 32 → is_set result j ≡ ltb (32 * k + j + 1) n }
 {
     sign_cells::cut(0xFFFF_FFFF, n, k)
@@ -35,7 +35,6 @@ fn mask_of(n: usize, k: usize) -> u32
 
 // These bits for each word of a layer.
 fn masks(n: usize) -> [u32; 513]
-    requires { (2 ≤ n) × (n ≤ 128) }
     ensures { Masks n result }
 {
     let mut all = [0; 513];

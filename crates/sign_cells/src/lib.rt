@@ -3,7 +3,7 @@
 
 #![tactic(auto)]
 
-ghost use Rattle.std.specs.Prelude.{◌≡◌, ◌^◌, ◌%◌, ◌≤◌, ◌<◌};
+ghost use Rattle.std.specs.Prelude.{◌≡◌, ◌^◌, ◌%◌, ◌<◌};
 ghost use Rattle.sign_cells.specs.Cells.{LongWordFrom, QuadFrom, cells_in, ActiveFrom, CaseFrom, OutsideFrom};
 
 use sign_words::Layers;
@@ -29,7 +29,7 @@ fn long_word(words: &[u32; 513], y: usize, k: usize) -> u64
 
 // The bits of the cells of word k; those past the row's last cell are cut off.
 pub fn cut(word: u32, n: usize, k: usize) -> u32
-    requires { (2 ≤ n) × (n ≤ 128) × (k < 4) }
+    requires { k < 4 }
     ensures { result ≡ word % 2 ^ cells_in n k }
 {
     let first = 32 * k;
@@ -58,7 +58,7 @@ impl Quad {
 
     // The cells of word k whose corners are not all alike: bit i is set for cell 32 * k + i.
     pub fn active(self, n: usize, k: usize) -> u32
-        requires { (2 ≤ n) × (n ≤ 128) × (k < 4) }
+        requires { k < 4 }
         ensures { ActiveFrom self n k result }
     {
         let some = self.a | self.b | self.c | self.d;
