@@ -1,17 +1,14 @@
 -- The layers of a walk that counts are those of the count.
-use mathlib.Core.Path.{◌≡◌, refl, sym, ap, ◌∙◌}
+use mathlib.Core.Path.{◌≡◌, refl, ap, ◌∙◌}
 use mathlib.Core.List.{List}
-use Prim.Native.Nat.{ℕ, zero, suc, ◌-◌}
+use Prim.Native.Nat.{ℕ, zero, suc}
 use lib.Ieee.{Float}
-use Rattle.walk.specs.Walk.{Inside, times}
-use Rattle.walk_models.specs.Owned.{cells_of_layer}
+use Rattle.walk.specs.Walk.{times}
 use Rattle.lent_mesh.specs.Grid.{inside_of}
 use Rattle.row_walk.specs.Steps.{Hand, row_parity}
 use Rattle.held_bits.specs.HeldCell.{Held, clear_held}
-use Rattle.grid_walk.specs.declared.Span.{Span}
-use Rattle.grid_walk.specs.Growth.{GrowsWithin}
 use Rattle.grid_walk.specs.Steps.{with_memory, layers_done}
-use Rattle.row_count.specs.Steps.{count_step, held_in, counting}
+use Rattle.row_count.specs.Steps.{held_in, counting}
 use Rattle.row_count.proofs.JoinedLayer.{layer-beside}
 use Rattle.grid_count.specs.Steps.{end_step, count_steps}
 

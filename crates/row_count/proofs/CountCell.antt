@@ -10,7 +10,7 @@ use Rattle.row_walk.specs.Steps.{Hand, layer_parity, row_parity}
 use Rattle.joined_slots.specs.OneCell.{count_of}
 use Rattle.held_bits.specs.Names.{name_words}
 use Rattle.held_bits.specs.HeldCell.{Held, held, held_cell}
-use Rattle.row_count.specs.Steps.{count_in, with_count, count_step, held_in, beside}
+use Rattle.row_count.specs.Steps.{with_count, count_step, held_in, beside}
 
 module _ (n : ℕ) (g : Inside) (z y x : ℕ) where
   pub crate-step : (layer row case : ℕ) (s t : Held) → layer ≡ layer_parity z → row ≡ row_parity n z y → case ≡ signs g x y z

@@ -1,7 +1,7 @@
 -- A layer of the count: the outputs stay as they are, and in the joined numbering the count alone changes, as it would by itself.
 use mathlib.Core.Path.{◌≡◌, refl, sym, ◌∙◌, ap}
 use mathlib.Core.List.{List}
-use Prim.Native.Nat.{ℕ, zero, suc, ◌-◌, ◌<◌}
+use Prim.Native.Nat.{ℕ, zero, suc, ◌-◌}
 use lib.Ieee.{Float}
 use Rattle.walk.specs.Walk.{Inside, times}
 use Rattle.walk_models.specs.Owned.{Count, count_cell, cells_of_row, cells_of_layer}

@@ -1,5 +1,5 @@
 -- `count_grid`: either numbering by its own step, from nothing counted.
-use mathlib.Core.Path.{◌≡◌, ap, ◌∙◌}
+use mathlib.Core.Path.{ap, ◌∙◌}
 use mathlib.Core.List.{List, []}
 use Prim.Native.Nat.{ℕ, zero-le}
 use native.Mathlib.Nat.{le_refl}

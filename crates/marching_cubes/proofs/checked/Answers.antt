@@ -1,10 +1,8 @@
 -- `checked`: the tests in the order of the causes.
-use mathlib.Core.Path.{◌≡◌, sym, ap, ◌∙◌}
-use Prim.Native.Nat.{◌≤◌}
+use mathlib.Core.Path.{sym, ◌∙◌}
 use native.Mathlib.Omega.{arith}
 use lib.ListN.{length}
 use borrow.Author.Tests.{ltb-true, ltb-false}
-use Rattle.numbering.specs.Word.{numbering_in}
 use Rattle.sample_check.specs.Samples.{any_bad, lowest_bad}
 use Rattle.sample_check.proofs.Samples.{any_bad-lowest_bad}
 use Rattle.marching_cubes.proofs.ByCause.{size-under, size-over, numbering-over, samples-not-whole, work-short, sample-bad}

@@ -1,7 +1,7 @@
 -- `extract`: a grid that is accepted is meshed.
-use mathlib.Core.Path.{◌≡◌, sym, ap, ◌∙◌}
-use Prim.Native.Nat.{ℕ, ◌≤◌}
-use Rattle.outcome.specs.Outcome.{Outcome, left, filled, surface_of}
+use mathlib.Core.Path.{◌≡◌, sym, ◌∙◌}
+use Prim.Native.Nat.{◌≤◌}
+use Rattle.outcome.specs.Outcome.{Outcome, filled, surface_of}
 use Rattle.marching_cubes.proofs.ByCause.{accepted}
 use Rattle.marching_cubes.proofs.Known.{word-le}
 use Rattle.marching_cubes.proofs.extract.Goals as goal
