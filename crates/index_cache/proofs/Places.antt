@@ -16,7 +16,7 @@ use Rattle.walk_models.specs.CacheMemory.{put_layer, put_row, clear_row}
 use Rattle.index_cache.specs.Found.{CacheRoom, found_all}
 
 pub room-kept : {n : ℕ} (work next : List ℕ) → length next ≡ length work → CacheRoom n work → CacheRoom n next
-room-kept work next same h = record { most = h.most; room = omega (arith, h.room, same) }
+room-kept work next same h = record { room = omega (arith, h.room, same) }
 
 -- a place of a layer, and how many there are
 pub place-below : (n x y l : ℕ) → (n ≤ 128) × (x < n) × (y < n) × (l ≤ 1) → (y * n + x < n * n) × (n * n ≤ 16384)
