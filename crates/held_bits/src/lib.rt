@@ -82,6 +82,7 @@ fn put_set(work: &mut [u32], at: usize, new: u32)
 }
 
 // One cell; the layer and the row that it doesn't read it writes.
+// `written_fits` stays a clause, here and above: what room is left changes with each cell, and so no type holds it.
 pub fn held_cell(
     names: &[u32; 256],
     size: Size,
