@@ -22,7 +22,7 @@ use packed_tables::edges::PackedEdges;
 // One cell of the crate numbering: `case` is its sign byte, `rows` the packed rows of the triangle table,
 // `regulars` what a regular cell makes. A cell is taken as regular only once a vertex has been made, for
 // number 0 reads as absent.
-// The two tables stay apart: the joined numbering reads `rows` alone, so a table of pairs would hold it twice.
+// The tables stay two: the joined numbering reads `rows` alone, and the step that calls has both in its type already.
 // Before and after it no number is held in `current_cell`, as `advance_cell` has it.
 pub fn crate_cell(
     rows: &[u64; 256],

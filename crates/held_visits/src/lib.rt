@@ -15,6 +15,7 @@ use lent_mesh::cell::Cell;
 use packed_tables::edges::PackedEdges;
 
 // The edge gets the number, and its vertex is put there.
+// `CacheRoom` stays a clause: each contract speaks of the words before and after, which a struct of them would hide.
 pub fn make_edge(
     cell: Cell,
     parity: Parity,

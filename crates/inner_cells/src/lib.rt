@@ -13,6 +13,7 @@ use joined_slots::slot_cell::SlotCell;
 
 // An edge with a mark takes the number that its mark says, counted from `made`, and its vertex is put; one
 // without has none.
+// The room in `work` stays a clause: each contract speaks of the words before and after, which a struct would hide.
 fn make_marked(
     here: SlotCell,
     edge: usize,

@@ -63,6 +63,7 @@ fn new_word(news: &[u64; 2048], case: u8, class: usize) -> u64
 
 // The new edges of a cell are made, by its word in `news`. An inner cell has marks in it; where the cells
 // around are active too, the compiler cannot know which edges are crossed, and the list is faster.
+// What `news` holds stays a clause: the steps that lend it have it in their types, and a type of its own would be a third.
 fn make_new(
     news: &[u64; 2048],
     here: SlotCell,

@@ -31,6 +31,7 @@ pub fn is_regular(regular: u64, current: &[u32; 12]) -> bool
 }
 
 // The visits of a regular cell's row: the new edges first, then the indices.
+// `counts.written + 15` stays a clause: a type with that room would hold before a cell and not after it.
 pub fn regular_visits(
     cell: Cell,
     parity: Parity,

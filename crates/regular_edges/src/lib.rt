@@ -12,6 +12,7 @@ use index_cache::Parity;
 use lent_mesh::cell::Cell;
 
 // The edge is made if the word names it, with the number that its rank gives it.
+// `made + 15` stays a clause: a cell makes up to 15, so a type with that room would hold before a cell and not after.
 fn make_named(
     cell: Cell,
     parity: Parity,
