@@ -1,26 +1,21 @@
--- The places that the code works out, and what a store or a read there is in the model. For `layer_place`, `put`, `found` and `clear_row`;
+-- The places that the code works out, and what a store or a read there is in the model. For `put`, `found` and `clear_row`;
 -- and that a store leaves the room for the cache, for whoever goes on storing.
 use mathlib.Core.Path.{◌≡◌, sym, ap, ◌∙◌}
 use mathlib.Core.Bool.{cond}
 use mathlib.Core.List.{List, [], ◌∷◌}
-use Prim.Native.Nat.{ℕ, suc, ◌+◌, ◌-◌, ◌*◌, ◌≤◌, ◌<◌}
-use native.Mathlib.Nat.{add-zero, mul-le-mul}
+use Prim.Native.Nat.{ℕ, suc, ◌+◌, ◌-◌, ◌*◌}
+use native.Mathlib.Nat.{add-zero}
 use native.Mathlib.Numerals.{add-one}
 use native.Mathlib.Omega.{arith}
 use lib.Dec.{ltb}
 use lib.ListN.{length, get_or, set}
 use Rattle.walk.specs.Walk.{times}
 use Rattle.walk.specs.Cache.{in_layer, put_column}
-use Rattle.walk.proofs.Rank.{place-lt}
 use Rattle.walk_models.specs.CacheMemory.{put_layer, put_row, clear_row}
 use Rattle.index_cache.specs.Found.{CacheRoom, found_all}
 
 pub room-kept : {n : ℕ} (work next : List ℕ) → length next ≡ length work → CacheRoom n work → CacheRoom n next
-room-kept work next same h = record { most = h.most; room = omega (arith, h.room, same) }
-
--- a place of a layer, and how many there are
-pub place-below : (n x y l : ℕ) → (n ≤ 128) × (x < n) × (y < n) × (l ≤ 1) → (y * n + x < n * n) × (n * n ≤ 16384)
-place-below n x y l h = (place-lt n x y h.1 h.2, mul-le-mul h.0 h.0)
+room-kept work next same h = record { room = omega (arith, h.room, same) }
 
 -- a store to the layer, then one to the row
 pub put-stored : (n x y l r e i at place : ℕ) (w u t : List ℕ)

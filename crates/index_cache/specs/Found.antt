@@ -1,10 +1,9 @@
--- What the code of the index cache may rely on, and what `get` finds outside a cell. A private model, which the contracts of the walk's functions cite.
+-- What the code of the index cache may rely on beside its size, and what `get` finds outside a cell. A private model, which the contracts of the walk's functions cite.
 use Rattle.std.specs.Prelude.{List, [], ◌∷◌, ℕ, ◌+◌, ◌*◌, ◌≤◌, length, get_or}
 use Rattle.walk_models.specs.CacheMemory.{layer_place, row_place}
 
 -- room for the cache
 pub record CacheRoom (n : ℕ) (work : List ℕ) : Type 0 where
-  pub most : n ≤ 128
   pub room : 8 * (n * n) + 6 * n ≤ length work
 
 -- edges 0 to 3 from the layer, 4, 8 and 9 from the row

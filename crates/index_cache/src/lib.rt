@@ -3,10 +3,12 @@
 
 #![tactic(auto)]
 
-ghost use Rattle.std.specs.Prelude.{◌≡◌, Some, None, cond, ◌+◌, ◌-◌, ◌*◌, ◌^◌, ◌≤◌, ◌<◌, ltb, length, set};
+ghost use Rattle.std.specs.Prelude.{◌≡◌, Some, None, cond, ◌+◌, ◌-◌, ◌*◌, ◌≤◌, ◌<◌, ltb, length, set};
 ghost use Rattle.walk.specs.Cache.{in_layer, put_column};
 ghost use Rattle.walk_models.specs.CacheMemory.{put_layer, put_row, clear_row};
 ghost use Rattle.index_cache.specs.Found.{CacheRoom, found_all};
+
+use grid_size::Size;
 
 // The layer and the row of the cache that a cell reads, 0 or 1 each; it writes the others.
 #[derive(Clone, Copy)]
@@ -18,19 +20,20 @@ pub struct Parity {
 }
 
 // Where the four words of the place (x, y) in a layer begin.
-fn layer_place(n: usize, x: usize, y: usize, layer: usize) -> usize
-    requires { (n ≤ 128) × (x < n) × (y < n) × (layer ≤ 1) }
-    ensures { (result ≡ 8 * (y * n + x) + 4 * layer) × (result + 4 ≤ 8 * (n * n)) × (result < 2 ^ 32) }
+// These bounds stay clauses: a cell and its `Parity` give them, and a type would be made anew for each of these calls.
+fn layer_place(size: Size, x: usize, y: usize, layer: usize) -> usize
+    requires { (x < size.n) × (y < size.n) × (layer ≤ 1) }
+    ensures { (result ≡ 8 * (y * size.n + x) + 4 * layer) × (result + 4 ≤ 8 * (size.n * size.n)) }
 {
-    8 * (y * n + x) + 4 * layer
+    8 * (y * size.n + x) + 4 * layer
 }
 
 // Where the three words of the place x in a row begin.
-fn row_place(n: usize, x: usize, row: usize) -> usize
-    requires { (n ≤ 128) × (x < n) × (row ≤ 1) }
-    ensures { (result ≡ 8 * (n * n) + 6 * x + 3 * row) × (result + 3 ≤ 8 * (n * n) + 6 * n) × (result < 2 ^ 32) }
+fn row_place(size: Size, x: usize, row: usize) -> usize
+    requires { (x < size.n) × (row ≤ 1) }
+    ensures { (result ≡ 8 * (size.n * size.n) + 6 * x + 3 * row) × (result + 3 ≤ 8 * (size.n * size.n) + 6 * size.n) }
 {
-    8 * (n * n) + 6 * x + 3 * row
+    8 * (size.n * size.n) + 6 * x + 3 * row
 }
 
 // The column of `rows` that `put` writes for an edge, if any.
@@ -49,7 +52,7 @@ fn put_column(edge: usize) -> Option<usize>
 // The four words of a place in a layer begin at `at`.
 #[tactic(auto, unfolding(walk::specs::Cache::in_layer))]
 fn put_layer(work: &mut [u32], at: usize, edge: usize, index: u32)
-    requires { (at + 4 ≤ length work.old) × (at < 2 ^ 32) }
+    requires { at + 4 ≤ length work.old }
     ensures { work.new ≡ cond (in_layer edge) (set work.old (at + (edge - 4)) index) work.old }
 {
     if let 4..=7 = edge {
@@ -59,7 +62,7 @@ fn put_layer(work: &mut [u32], at: usize, edge: usize, index: u32)
 
 // The three words of a place in a row begin at `at`.
 fn put_row(work: &mut [u32], at: usize, edge: usize, index: u32)
-    requires { (at + 3 ≤ length work.old) × (at < 2 ^ 32) }
+    requires { at + 3 ≤ length work.old }
     ensures { work.new ≡ cond (ltb (put_column edge) 3) (set work.old (at + put_column edge) index) work.old }
 {
     if let Some(column) = put_column(edge) {
@@ -68,23 +71,31 @@ fn put_row(work: &mut [u32], at: usize, edge: usize, index: u32)
 }
 
 // `put`, but for `current_cell`: into the layer and the row that are not read.
-pub fn put(work: &mut [u32], n: usize, x: usize, y: usize, parity: Parity, edge: usize, index: u32)
-    requires cache_room { CacheRoom n work.old }
-    requires x_lt_n { (x < n) × (y < n) }
-    ensures { work.new ≡ put_row n (1 - parity.row) x edge index (put_layer n (1 - parity.layer) x y edge index work.old) }
+pub fn put(
+    work: &mut [u32],
+    size: Size,
+    x: usize,
+    y: usize,
+    parity: Parity,
+    edge: usize,
+    index: u32,
+)
+    requires cache_room { CacheRoom size.n work.old }
+    requires x_lt_n { (x < size.n) × (y < size.n) }
+    ensures { work.new ≡ put_row size.n (1 - parity.row) x edge index (put_layer size.n (1 - parity.layer) x y edge index work.old) }
 {
-    put_layer(work, layer_place(n, x, y, 1 - parity.layer), edge, index);
-    put_row(work, row_place(n, x, 1 - parity.row), edge, index);
+    put_layer(work, layer_place(size, x, y, 1 - parity.layer), edge, index);
+    put_row(work, row_place(size, x, 1 - parity.row), edge, index);
 }
 
 // What `get` finds for each edge before it turns to `current_cell`.
-pub fn found(work: &[u32], n: usize, x: usize, y: usize, parity: Parity) -> [u32; 12]
-    requires cache_room { CacheRoom n work.now }
-    requires x_lt_n { (x < n) × (y < n) }
-    ensures { result ≡ found_all n x y parity.layer parity.row work.now }
+pub fn found(work: &[u32], size: Size, x: usize, y: usize, parity: Parity) -> [u32; 12]
+    requires cache_room { CacheRoom size.n work.now }
+    requires x_lt_n { (x < size.n) × (y < size.n) }
+    ensures { result ≡ found_all size.n x y parity.layer parity.row work.now }
 {
-    let a = layer_place(n, x, y, parity.layer);
-    let b = row_place(n, x, parity.row);
+    let a = layer_place(size, x, y, parity.layer);
+    let b = row_place(size, x, parity.row);
     [
         work[a],
         work[a + 1],
@@ -102,7 +113,7 @@ pub fn found(work: &[u32], n: usize, x: usize, y: usize, parity: Parity) -> [u32
 }
 
 fn clear_three(work: &mut [u32], at: usize)
-    requires { (at + 3 ≤ length work.old) × (at < 2 ^ 32) }
+    requires { at + 3 ≤ length work.old }
     ensures { work.new ≡ set (set (set work.old at 0) (at + 1) 0) (at + 2) 0 }
 {
     work[at] = 0;
@@ -111,11 +122,12 @@ fn clear_three(work: &mut [u32], at: usize)
 }
 
 // The part of `advance_layer` that clears `rows[0]`.
-pub fn clear_row(work: &mut [u32], n: usize, row: usize)
-    requires { (n ≤ 128) × (row ≤ 1) × (8 * (n * n) + 6 * n ≤ length work.old) }
-    ensures { work.new ≡ clear_row n row n work.old }
+pub fn clear_row(work: &mut [u32], size: Size, row: usize)
+    requires cache_room { CacheRoom size.n work.old }
+    requires row_le { row ≤ 1 }
+    ensures { work.new ≡ clear_row size.n row size.n work.old }
 {
-    for x in 0..n {
-        clear_three(work, row_place(n, x, row));
+    for x in 0..size.n {
+        clear_three(work, row_place(size, x, row));
     }
 }

@@ -13,15 +13,15 @@ pub struct SlotCell<'a> {
     pub cell: Cell<'a>,
     pub slots: &'a [usize; 12],
     pub at: usize,
-    pub ghost slots_are: { SlotsFrom at slots.now cell.n cell.x cell.y cell.z },
+    pub ghost slots_are: { SlotsFrom at slots.now cell.size.n cell.x cell.y cell.z },
 }
 
 impl SlotCell<'_> {
     // Where the number of an edge stands.
     pub fn place(self, edge: usize) -> usize
         requires { edge < 12 }
-        ensures slot_of { result ≡ slot self.entry.cell.n (edge_of (edge_visit self.entry.cell.x self.entry.cell.y self.entry.cell.z edge)) }
-        ensures in_work { result < 8 * (self.entry.cell.n * self.entry.cell.n) }
+        ensures slot_of { result ≡ slot self.entry.cell.size.n (edge_of (edge_visit self.entry.cell.x self.entry.cell.y self.entry.cell.z edge)) }
+        ensures in_work { result < 8 * (self.entry.cell.size.n * self.entry.cell.size.n) }
     {
         self.at + self.slots[edge]
     }

@@ -4,24 +4,26 @@ ghost use Rattle.positions.specs.Position.{sample_at};
 ghost use Rattle.lent_mesh.specs.Grid.{position_at};
 ghost use Rattle.lent_mesh.specs.Stored.{put_point, CellOf, Coordinates};
 
+use grid_size::Size;
 use marching_cubes_impl::vertex::Vertex;
 
-// The cell whose corner 0 is the sample point (x, y, z) of a grid of n samples to a side. The coordinates 0 to n are
-// worked out once for the grid.
+// The cell whose corner 0 is the sample point (x, y, z) of a grid. The coordinates 0 to n are worked out once for the
+// grid.
 #[derive(Clone, Copy)]
 pub struct Cell<'a> {
     pub samples: &'a [f32],
     pub coordinates: &'a [f32; 129],
-    pub n: usize,
+    pub size: Size,
     pub x: usize,
     pub y: usize,
     pub z: usize,
-    pub ghost of_grid: { CellOf samples.now n x y z },
-    pub ghost coordinates_are: { Coordinates n coordinates.now },
+    pub ghost of_grid: { CellOf samples.now size.n x y z },
+    pub ghost coordinates_are: { Coordinates size.n coordinates.now },
 }
 
 // How far the end of an edge lies from its cell's corner 0 along one axis: `offsets` has a bit for
 // each edge.
+// `edge < 12` stays a clause, here and above: it indexes five tables and is mostly a literal, which a type would wrap.
 fn offset(offsets: usize, edge: usize) -> usize
     requires { (edge < 12) × (offsets < 4096) }
     ensures { (result ≡ offsets / 2 ^ edge % 2) × (result ≤ 1) }
@@ -41,17 +43,17 @@ fn store(vertices: &mut [f32], at: usize, p: Vertex)
 
 impl Cell<'_> {
     fn sample(self, x: usize, y: usize, z: usize) -> f32
-        requires { (x < self.n) × (y < self.n) × (z ≤ self.n) × (self.n * self.n * (z + 1) ≤ length self.samples.now) }
-        ensures { result ≡ sample_at self.entry.n self.entry.samples.now (record { x = x; y = y; z = z }) }
+        requires { (x < self.size.n) × (y < self.size.n) × (z ≤ self.size.n) × (self.size.n * self.size.n * (z + 1) ≤ length self.samples.now) }
+        ensures { result ≡ sample_at self.entry.size.n self.entry.samples.now (record { x = x; y = y; z = z }) }
     {
-        self.samples[(z * self.n + y) * self.n + x]
+        self.samples[(z * self.size.n + y) * self.size.n + x]
     }
 
     // The vertex on an edge. Bit e of the six constants is CORNERS at the first or second corner that
     // EDGE_CONNECTION has for edge e, along x, y or z.
     pub fn vertex_on(self, edge: usize) -> Vertex
         requires { edge < 12 }
-        ensures { result ≡ position_at self.entry.n self.entry.samples.now (record { x = self.entry.x; y = self.entry.y; z = self.entry.z; edge = edge }) }
+        ensures { result ≡ position_at self.entry.size.n self.entry.samples.now (record { x = self.entry.x; y = self.entry.y; z = self.entry.z; edge = edge }) }
     {
         let x0 = self.x + offset(0x666, edge);
         let y0 = self.y + offset(0xCCC, edge);
@@ -78,7 +80,7 @@ impl Cell<'_> {
     // out.
     pub fn put_vertex(self, edge: usize, vertices: &mut [f32], number: u32)
         requires { edge < 12 }
-        ensures { vertices.new ≡ put_point vertices.old number (position_at self.entry.n self.entry.samples.now (record { x = self.entry.x; y = self.entry.y; z = self.entry.z; edge = edge })) }
+        ensures { vertices.new ≡ put_point vertices.old number (position_at self.entry.size.n self.entry.samples.now (record { x = self.entry.x; y = self.entry.y; z = self.entry.z; edge = edge })) }
     {
         let at = 3 * (number as usize);
         if at + 2 < vertices.len() {

@@ -9,6 +9,8 @@ pub mod cell;
 ghost use Rattle.std.specs.Prelude.{◌≡◌, ◌+◌, ◌^◌, ◌≤◌, ◌<◌, length, set};
 ghost use Rattle.lent_mesh.specs.Cell.{Coordinates};
 
+use grid_size::Size;
+
 // How many vertices and indices a run has come to after a cell: each vertex was made for an index.
 #[derive(Clone, Copy)]
 pub struct Counts {
@@ -17,14 +19,13 @@ pub struct Counts {
     pub ghost ordered: { made ≤ written },
 }
 
-// The coordinates 0 to n of a grid of size n, to be made once and lent.
-pub fn coordinates(n: usize) -> [f32; 129]
-    requires { (2 ≤ n) × (n ≤ 128) }
-    ensures { Coordinates n result }
+// The coordinates 0 to n of a grid, to be made once and lent.
+pub fn coordinates(size: Size) -> [f32; 129]
+    ensures { Coordinates size.n result }
 {
-    let step = positions::step(n as u32);
+    let step = positions::step(size.n as u32);
     let mut all = [0.0f32; 129];
-    for i in 0..n + 1 {
+    for i in 0..size.n + 1 {
         all[i] = positions::corner_coordinate(i as u32, step);
     }
     all

@@ -1,11 +1,13 @@
 // Signs by words: a bit for each sample of a layer, 32 to a word and four words to a row. Samples are
-// read here once for each layer. Sizes are 2 to 128.
+// read here once for each layer.
 
 #![tactic(auto)]
 
 ghost use Rattle.std.specs.Prelude.{◌≡◌, ◌+◌, ◌*◌, ◌/◌, ◌≤◌, ◌<◌, length};
 ghost use Rattle.marching_cubes_impl.specs.Sample.{inside};
 ghost use Rattle.sign_words.specs.Words.{word_of, kept_bit, sign_word, word_from, LayerWords, WordsFilled, RowFilled};
+
+use grid_size::Size;
 
 // The sign words of a layer of cells: of the samples below it and above it.
 #[derive(Clone, Copy)]
@@ -59,6 +61,7 @@ fn part_word(samples: &[f32]) -> u32
 }
 
 // Word k of a row, where it is not whole; past the row's end the bits are 0.
+// `k < 4` stays a clause, here and above: k is the count of a loop, and a type would be made at each of its turns.
 fn end_word(row: &[f32], k: usize) -> u32
     requires { (k < 4) × (length row.now < 32 * k + 32) }
     ensures { result ≡ word_from row.now k }
@@ -92,22 +95,22 @@ fn fill_end(row: &[f32], y: usize, words: &mut [u32; 513])
 }
 
 // The four words of row y of the sample layer z.
-fn fill_row(samples: &[f32], n: usize, y: usize, z: usize, words: &mut [u32; 513])
-    requires { (n ≤ 128) × (y < n) × (n * n * (z + 1) ≤ length samples.now) }
-    ensures { RowFilled n samples.now y z words.old words.new }
+fn fill_row(samples: &[f32], size: Size, y: usize, z: usize, words: &mut [u32; 513])
+    requires { (y < size.n) × (size.n * size.n * (z + 1) ≤ length samples.now) }
+    ensures { RowFilled size.n samples.now y z words.old words.new }
 {
-    let start = (z * n + y) * n;
-    let row = &samples[start..start + n];
+    let start = (z * size.n + y) * size.n;
+    let row = &samples[start..start + size.n];
     fill_whole(row, y, words);
     fill_end(row, y, words);
 }
 
 // The words of the sample layer z.
-pub fn fill_layer(samples: &[f32], n: usize, z: usize, words: &mut [u32; 513])
-    requires { (2 ≤ n) × (n ≤ 128) × (n * n * (z + 1) ≤ length samples.now) }
-    ensures { LayerWords n samples.now z words.new }
+pub fn fill_layer(samples: &[f32], size: Size, z: usize, words: &mut [u32; 513])
+    requires { size.n * size.n * (z + 1) ≤ length samples.now }
+    ensures { LayerWords size.n samples.now z words.new }
 {
-    for y in 0..n {
-        fill_row(samples, n, y, z, words);
+    for y in 0..size.n {
+        fill_row(samples, size, y, z, words);
     }
 }

@@ -9,5 +9,5 @@ use Rattle.sign_words.proofs.fill_row.Goals as goal
 pub returns : goal.returns
 returns c =
     let args = c.args in
-    let there : (args.z * args.n + args.y) * args.n + args.n ≤ length args.samples.now = le_trans (row_within args.n args.y args.z c.requires.1) c.requires.2 in
-    row-filled args.n args.samples.now args.z args.y _ (omega arith) there _ _ _ c.fill_whole.ensures c.fill_end.ensures
+    let there : (args.z * args.size.n + args.y) * args.size.n + args.size.n ≤ length args.samples.now = le_trans (row_within args.size.n args.y args.z c.requires.0) c.requires.1 in
+    row-filled args.size.n args.samples.now args.z args.y _ (omega arith) there _ _ _ c.fill_whole.ensures c.fill_end.ensures

@@ -7,10 +7,10 @@ pub overflow_add-result : goal.overflow_add-result
 overflow_add-result c =
     let here = c.args.self in
     let cell = here.cell.of_grid in
-    omega (arith, slot-small here.cell.n _ cell.most (slot-in-work here.at here.cell.n here.cell.x here.cell.y here.cell.z c.args.edge here.slots.now here.slots_are cell.in-x cell.in-y c.requires))
+    omega (arith, slot-small here.cell.size.n _ cell.most (slot-in-work here.at here.cell.size.n here.cell.x here.cell.y here.cell.z c.args.edge here.slots.now here.slots_are cell.in-x cell.in-y c.requires))
 
 pub returns-clause-in_work : goal.returns-clause-in_work
 returns-clause-in_work c =
     let here = c.args.self in
     let cell = here.cell.of_grid in
-    slot-in-work here.at here.cell.n here.cell.x here.cell.y here.cell.z c.args.edge here.slots.now here.slots_are cell.in-x cell.in-y c.requires
+    slot-in-work here.at here.cell.size.n here.cell.x here.cell.y here.cell.z c.args.edge here.slots.now here.slots_are cell.in-x cell.in-y c.requires

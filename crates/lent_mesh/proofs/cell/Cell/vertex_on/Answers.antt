@@ -27,7 +27,7 @@ returns c =
     let here = c.args.self in
     let edge = c.args.edge in
     let e = c.requires in
-    position_at-known here.n here.x here.y here.z edge here.samples.now here.coordinates.now here.of_grid here.coordinates_are
+    position_at-known here.size.n here.x here.y here.z edge here.samples.now here.coordinates.now here.of_grid here.coordinates_are
     c.offset.result
     c.offset-2.result
     c.offset-3.result
