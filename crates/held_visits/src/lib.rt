@@ -15,6 +15,7 @@ use lent_mesh::cell::Cell;
 use packed_tables::edges::PackedEdges;
 
 // The edge gets the number, and its vertex is put there.
+// `CacheRoom` stays a clause: each contract speaks of the words before and after, which a struct of them would hide.
 pub fn make_edge(
     cell: Cell,
     parity: Parity,
@@ -24,12 +25,12 @@ pub fn make_edge(
     work: &mut [u32],
     vertices: &mut [f32],
 )
-    requires cache_room { CacheRoom cell.n work.old }
+    requires cache_room { CacheRoom cell.size.n work.old }
     requires edge_bound { edge < 12 }
     ensures { let at = cell.entry in (is : List ℕ) (m w : ℕ) → hand (in_cell work.new parity.layer parity.row current.new) vertices.new is m w
-        ≡ number_edge at.n at.samples.now at.x at.y at.z edge number (hand (in_cell work.old parity.layer parity.row current.old) vertices.old is m w) }
+        ≡ number_edge at.size.n at.samples.now at.x at.y at.z edge number (hand (in_cell work.old parity.layer parity.row current.old) vertices.old is m w) }
 {
-    index_cache::put(work, cell.n, cell.x, cell.y, parity, edge, number);
+    index_cache::put(work, cell.size, cell.x, cell.y, parity, edge, number);
     current[edge] = number;
     cell.put_vertex(edge, vertices, number);
 }
@@ -47,11 +48,11 @@ fn visit(
     indices: &mut [u32],
     counts: Counts,
 ) -> Counts
-    requires cache_room { CacheRoom cell.n work.old }
+    requires cache_room { CacheRoom cell.size.n work.old }
     requires edge_bound { edge < 12 }
     requires written_fits { counts.written + 1 < 2 ^ 32 }
     ensures result_after { let at = cell.entry in in_hand (in_cell work.new parity.layer parity.row current.new) vertices.new indices.new result
-        ≡ held_visit at.n at.samples.now at.x at.y at.z edge (in_hand (in_cell work.old parity.layer parity.row current.old) vertices.old indices.old counts) }
+        ≡ held_visit at.size.n at.samples.now at.x at.y at.z edge (in_hand (in_cell work.old parity.layer parity.row current.old) vertices.old indices.old counts) }
     ensures written_value { result.written ≡ counts.written + 1 }
 {
     let number = current[edge];
@@ -81,10 +82,10 @@ pub fn visit_all(
     indices: &mut [u32],
     mut counts: Counts,
 ) -> Counts
-    requires cache_room { CacheRoom cell.n work.old }
+    requires cache_room { CacheRoom cell.size.n work.old }
     requires written_fits { counts.written + edges.count < 2 ^ 32 }
     ensures result_after { let at = cell.entry in in_hand (in_cell work.new parity.layer parity.row current.new) vertices.new indices.new result
-        ≡ held_edges at.n at.samples.now at.x at.y at.z (edges_left edges) (in_hand (in_cell work.old parity.layer parity.row current.old) vertices.old indices.old counts) }
+        ≡ held_edges at.size.n at.samples.now at.x at.y at.z (edges_left edges) (in_hand (in_cell work.old parity.layer parity.row current.old) vertices.old indices.old counts) }
     ensures written_value { result.written ≡ counts.written + edges.count }
 {
     for edge in edges {

@@ -13,6 +13,7 @@ use joined_slots::slot_cell::SlotCell;
 
 // An edge with a mark takes the number that its mark says, counted from `made`, and its vertex is put; one
 // without has none.
+// The room in `work` stays a clause: each contract speaks of the words before and after, which a struct would hide.
 fn make_marked(
     here: SlotCell,
     edge: usize,
@@ -22,9 +23,9 @@ fn make_marked(
     made: u32,
 )
     requires edge_bound { (edge < 12) × (mark ≤ 15) }
-    requires n_in_bounds { (8 * (here.cell.n * here.cell.n) ≤ length work.old) × (made + 15 < 2 ^ 32) }
+    requires n_in_bounds { (8 * (here.cell.size.n * here.cell.size.n) ≤ length work.old) × (made + 15 < 2 ^ 32) }
     ensures { let cell = here.entry.cell in (l : List ℕ) (written : ℕ) → hand work.new vertices.new l made written
-        ≡ each (make_ranked (store_at cell.n cell.samples.now) cell.n cell.z cell.y cell.x) (marked edge mark) (hand work.old vertices.old l made written) }
+        ≡ each (make_ranked (store_at cell.size.n cell.samples.now) cell.size.n cell.z cell.y cell.x) (marked edge mark) (hand work.old vertices.old l made written) }
 {
     if 0 < mark {
         let number = made + (mark - 1);
@@ -36,6 +37,7 @@ fn make_marked(
 // All three, in this order whatever that of the list is: the two of the upper plane, and the one along z. The marks
 // stand in the word from bit 16 on, and how many there are in its highest four bits. What is answered is how many
 // vertices there are after them.
+// The word stays a word: a struct of its marks and its count would be unpacked for this one reader alone.
 pub fn make_inner(
     here: SlotCell,
     word: u64,
@@ -43,9 +45,9 @@ pub fn make_inner(
     vertices: &mut [f32],
     made: u32,
 ) -> u32
-    requires n_in_bounds { (8 * (here.cell.n * here.cell.n) ≤ length work.old) × (made + 15 < 2 ^ 32) × (word / 2 ^ 60 ≤ 15) }
+    requires n_in_bounds { (8 * (here.cell.size.n * here.cell.size.n) ≤ length work.old) × (made + 15 < 2 ^ 32) × (word / 2 ^ 60 ≤ 15) }
     ensures by_index { let cell = here.entry.cell in (l : List ℕ) (written : ℕ) → hand work.new vertices.new l made written
-        ≡ each (make_ranked (store_at cell.n cell.samples.now) cell.n cell.z cell.y cell.x) (inner_marked word) (hand work.old vertices.old l made written) }
+        ≡ each (make_ranked (store_at cell.size.n cell.samples.now) cell.size.n cell.z cell.y cell.x) (inner_marked word) (hand work.old vertices.old l made written) }
     ensures made_value { result ≡ made + word / 2 ^ 60 }
 {
     make_marked(here, 5, ((word >> 16) % 16) as u32, work, vertices, made);

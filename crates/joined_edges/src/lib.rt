@@ -30,9 +30,9 @@ fn make_all(
     mut made: u32,
 ) -> u32
     requires list_bound { list.count ≤ 15 }
-    requires n_in_bounds { (8 * (here.cell.n * here.cell.n) ≤ length work.old) × (made + 15 < 2 ^ 32) }
+    requires n_in_bounds { (8 * (here.cell.size.n * here.cell.size.n) ≤ length work.old) × (made + 15 < 2 ^ 32) }
     ensures by_index { let cell = here.entry.cell in (l : List ℕ) (written : ℕ) → hand work.new vertices.new l result written
-        ≡ each (make_edge (store_at cell.n cell.samples.now) cell.n cell.z cell.y cell.x) (unpacked list.count list.word) (hand work.old vertices.old l made written) }
+        ≡ each (make_edge (store_at cell.size.n cell.samples.now) cell.size.n cell.z cell.y cell.x) (unpacked list.count list.word) (hand work.old vertices.old l made written) }
     ensures made_value { result ≡ made + list.count }
 {
     for edge in list {
@@ -46,36 +46,38 @@ fn make_all(
 // The number that an edge has.
 fn number_of(here: SlotCell, edge: usize, work: &[u32]) -> u32
     requires edge_bound { edge < 12 }
-    requires n_in_bounds { 8 * (here.cell.n * here.cell.n) ≤ length work.now }
-    ensures { let cell = here.entry.cell in result ≡ get_or work.now (slot cell.n (edge_of (edge_visit cell.x cell.y cell.z edge))) 0 }
+    requires n_in_bounds { 8 * (here.cell.size.n * here.cell.size.n) ≤ length work.now }
+    ensures { let cell = here.entry.cell in result ≡ get_or work.now (slot cell.size.n (edge_of (edge_visit cell.x cell.y cell.z edge))) 0 }
 {
     work[here.place(edge)]
 }
 
 // A table of 256 cases for each class.
-fn new_word(news: &[u64; 2048], case: usize, class: usize) -> u64
-    requires { (case < 256) × (class < 8) }
+// `class < 8` stays a clause here and below: a class is worked out for one cell and serves as an index alone.
+fn new_word(news: &[u64; 2048], case: u8, class: usize) -> u64
+    requires { class < 8 }
     ensures { result ≡ get_or news.now (256 * class + case) 0 }
 {
-    news[256 * class + case]
+    news[256 * class + usize::from(case)]
 }
 
 // The new edges of a cell are made, by its word in `news`. An inner cell has marks in it; where the cells
 // around are active too, the compiler cannot know which edges are crossed, and the list is faster.
+// What `news` holds stays a clause: the steps that lend it have it in their types, and a type of its own would be a third.
 fn make_new(
     news: &[u64; 2048],
     here: SlotCell,
-    case: usize,
+    case: u8,
     class: usize,
     dense: bool,
     work: &mut [u32],
     vertices: &mut [f32],
     made: u32,
 ) -> u32
-    requires news_value { (news.now ≡ new_words) × (case < 256) × (class < 8) }
-    requires n_in_bounds { (8 * (here.cell.n * here.cell.n) ≤ length work.old) × (made + 15 < 2 ^ 32) }
+    requires news_value { (news.now ≡ new_words) × (class < 8) }
+    requires n_in_bounds { (8 * (here.cell.size.n * here.cell.size.n) ≤ length work.old) × (made + 15 < 2 ^ 32) }
     ensures by_index { let cell = here.entry.cell in (l : List ℕ) (written : ℕ) → hand work.new vertices.new l result written
-        ≡ each (make_edge (store_at cell.n cell.samples.now) cell.n cell.z cell.y cell.x) (new_edges (owned_in class) (row_edges case)) (hand work.old vertices.old l made written) }
+        ≡ each (make_edge (store_at cell.size.n cell.samples.now) cell.size.n cell.z cell.y cell.x) (new_edges (owned_in class) (row_edges case)) (hand work.old vertices.old l made written) }
     ensures made_value { result ≡ made + length (new_edges (owned_in class) (row_edges case)) }
 {
     let word = new_word(news, case, class);
@@ -98,7 +100,7 @@ pub fn joined_cell(
     news: &[u64; 2048],
     cell: Cell,
     slots: &[usize; 12],
-    case: usize,
+    case: u8,
     class: usize,
     dense: bool,
     work: &mut [u32],
@@ -106,18 +108,18 @@ pub fn joined_cell(
     indices: &mut [u32],
     counts: Counts,
 ) -> Counts
-    requires rows_value { (rows.now ≡ row_words) × (news.now ≡ new_words) × Slots cell.n cell.z slots.now }
-    requires case_value { (case ≡ signs (inside_of cell.n cell.samples.now) cell.x cell.y cell.z) × (class ≡ class_of cell.x cell.y cell.z) }
-    requires n_in_bounds { (8 * (cell.n * cell.n) ≤ length work.old) × (counts.written + 15 < 2 ^ 32) }
-    ensures result_after { let at = cell.entry in let inside = inside_of at.n at.samples.now in in_hand work.new vertices.new indices.new result
-        ≡ owned_cell (store_at at.n at.samples.now) at.n inside at.z at.y at.x (in_hand work.old vertices.old indices.old counts) }
+    requires rows_value { (rows.now ≡ row_words) × (news.now ≡ new_words) × Slots cell.size.n cell.z slots.now }
+    requires case_value { (case ≡ signs (inside_of cell.size.n cell.samples.now) cell.x cell.y cell.z) × (class ≡ class_of cell.x cell.y cell.z) }
+    requires n_in_bounds { (8 * (cell.size.n * cell.size.n) ≤ length work.old) × (counts.written + 15 < 2 ^ 32) }
+    ensures result_after { let at = cell.entry in let inside = inside_of at.size.n at.samples.now in in_hand work.new vertices.new indices.new result
+        ≡ owned_cell (store_at at.size.n at.samples.now) at.size.n inside at.z at.y at.x (in_hand work.old vertices.old indices.old counts) }
     ensures written_bound { result.written ≤ counts.written + 15 }
 {
-    let row = rows[case];
+    let row = rows[usize::from(case)];
     let here = SlotCell {
         cell,
         slots,
-        at: 8 * (cell.y * cell.n + cell.x),
+        at: 8 * (cell.y * cell.size.n + cell.x),
     };
     let made = make_new(news, here, case, class, dense, work, vertices, counts.made);
     let list = PackedTriangles {
@@ -130,8 +132,8 @@ pub fn joined_cell(
 
 // What one cell adds to the counts, from its word in `news` alone: the number of its row's triangles
 // stands there too, in the four bits below the highest.
-pub fn joined_counts(news: &[u64; 2048], case: usize, class: usize, counts: Counts) -> Counts
-    requires news_value { (news.now ≡ new_words) × (case < 256) × (class < 8) }
+pub fn joined_counts(news: &[u64; 2048], case: u8, class: usize, counts: Counts) -> Counts
+    requires news_value { (news.now ≡ new_words) × (class < 8) }
     requires written_fits { counts.written + 15 < 2 ^ 32 }
     ensures result_value { (g : Inside) (x y z : ℕ) → case ≡ signs g x y z → class ≡ class_of x y z → count_of result ≡ count_cell g z y x (count_of counts) }
     ensures written_bound { result.written ≤ counts.written + 15 }

@@ -31,6 +31,7 @@ pub fn is_regular(regular: u64, current: &[u32; 12]) -> bool
 }
 
 // The visits of a regular cell's row: the new edges first, then the indices.
+// `counts.written + 15` stays a clause: a type with that room would hold before a cell and not after it.
 pub fn regular_visits(
     cell: Cell,
     parity: Parity,
@@ -42,11 +43,11 @@ pub fn regular_visits(
     indices: &mut [u32],
     counts: Counts,
 ) -> Counts
-    requires cache_room { CacheRoom cell.n work.old }
+    requires cache_room { CacheRoom cell.size.n work.old }
     requires regular_of { RegularOf regular word current.old }
     requires made_nonzero { (0 < counts.made) × (counts.written + 15 < 2 ^ 32) }
     ensures result_after { let at = cell.entry in in_hand (in_cell work.new parity.layer parity.row current.new) vertices.new indices.new result
-        ≡ held_edges at.n at.samples.now at.x at.y at.z (unpacked (3 * (word / 2 ^ 60)) (word % 2 ^ 60)) (in_hand (in_cell work.old parity.layer parity.row current.old) vertices.old indices.old counts) }
+        ≡ held_edges at.size.n at.samples.now at.x at.y at.z (unpacked (3 * (word / 2 ^ 60)) (word % 2 ^ 60)) (in_hand (in_cell work.old parity.layer parity.row current.old) vertices.old indices.old counts) }
     ensures written_value { result.written ≡ counts.written + 3 * (word / 2 ^ 60) }
 {
     regular_edges::make_regular(cell, parity, regular, counts.made, current, work, vertices);

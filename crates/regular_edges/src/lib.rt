@@ -12,6 +12,7 @@ use index_cache::Parity;
 use lent_mesh::cell::Cell;
 
 // The edge is made if the word names it, with the number that its rank gives it.
+// `made + 15` stays a clause: a cell makes up to 15, so a type with that room would hold before a cell and not after.
 fn make_named(
     cell: Cell,
     parity: Parity,
@@ -22,10 +23,10 @@ fn make_named(
     work: &mut [u32],
     vertices: &mut [f32],
 )
-    requires cache_room { CacheRoom cell.n work.old }
+    requires cache_room { CacheRoom cell.size.n work.old }
     requires edge_bound { (edge < 12) × (made + 15 < 2 ^ 32) }
     ensures { let at = cell.entry in (is : List ℕ) (m w : ℕ) → hand (in_cell work.new parity.layer parity.row current.new) vertices.new is m w
-        ≡ named_edge at.n at.samples.now at.x at.y at.z regular made edge (hand (in_cell work.old parity.layer parity.row current.old) vertices.old is m w) }
+        ≡ named_edge at.size.n at.samples.now at.x at.y at.z regular made edge (hand (in_cell work.old parity.layer parity.row current.old) vertices.old is m w) }
 {
     if (regular >> edge) % 2 == 1 {
         let rank = ((regular >> (16 + 4 * edge)) % 16) as u32;
@@ -43,10 +44,10 @@ pub fn make_regular(
     work: &mut [u32],
     vertices: &mut [f32],
 )
-    requires cache_room { CacheRoom cell.n work.old }
+    requires cache_room { CacheRoom cell.size.n work.old }
     requires made_fits { made + 15 < 2 ^ 32 }
     ensures { let at = cell.entry in (is : List ℕ) (m w : ℕ) → hand (in_cell work.new parity.layer parity.row current.new) vertices.new is m w
-        ≡ regular_edges at.n at.samples.now at.x at.y at.z regular made (hand (in_cell work.old parity.layer parity.row current.old) vertices.old is m w) }
+        ≡ regular_edges at.size.n at.samples.now at.x at.y at.z regular made (hand (in_cell work.old parity.layer parity.row current.old) vertices.old is m w) }
 {
     make_named(cell, parity, regular, 0, made, current, work, vertices);
     make_named(cell, parity, regular, 5, made, current, work, vertices);

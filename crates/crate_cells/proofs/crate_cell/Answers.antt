@@ -11,26 +11,15 @@ use Rattle.regular_cells.proofs.RegularTest.{regular-of}
 use Rattle.crate_cells.proofs.HeldCell.{held-cell}
 use Rattle.crate_cells.proofs.crate_cell.Goals as goal
 
-pub offset_bounds-rows-case : goal.offset_bounds-rows-case
-offset_bounds-rows-case c = omega (arith, case-lt _ _ _ _ c.args.case c.requires.rows_value.2)
-
-pub bounds-rows-case : goal.bounds-rows-case
-bounds-rows-case c = case-lt _ _ _ _ c.args.case c.requires.rows_value.2
-
-pub offset_bounds-regulars-case : goal.offset_bounds-regulars-case
-offset_bounds-regulars-case c = omega (arith, case-lt _ _ _ _ c.args.case c.requires.rows_value.2)
-
-pub bounds-regulars-case : goal.bounds-regulars-case
-bounds-regulars-case c = case-lt _ _ _ _ c.args.case c.requires.rows_value.2
-
 -- a regular cell
 pub regular_visits-requires-clause-regular_of : goal.regular_visits-requires-clause-regular_of
 regular_visits-requires-clause-regular_of c =
     let given = c.requires.rows_value in
+    let byte = c.from-index.ensures ∙ given.2 in
     let cell = c.args.cell in
     let regular = sym c.is_regular.ensures ∙ and_right (ltb 0 c.args.counts.made) c.is_regular.result c.if-counts-is_regular.true in
-    regular-of c.args.case _ _ cell.n cell.x cell.y c.args.parity.layer c.args.parity.row c.args.work.now _
-    c.args.rows.now c.args.regulars.now (case-lt _ _ _ _ c.args.case given.2) given.0 given.1 refl refl
+    regular-of c.from-index.result _ _ cell.size.n cell.x cell.y c.args.parity.layer c.args.parity.row c.args.work.now _
+    c.args.rows.now c.args.regulars.now (case-lt _ _ _ _ c.from-index.result byte) given.0 given.1 refl refl
     c.found-current.ensures regular
 
 pub returns-then-counts-is_regular-clause-result_after : goal.returns-then-counts-is_regular-clause-result_after
@@ -39,28 +28,32 @@ returns-then-counts-is_regular-clause-result_after c =
     let cell = args.cell in
     let parity = args.parity in
     let given = c.requires.rows_value in
+    let byte = c.from-index.ensures ∙ given.2 in
     let rows = args.rows.now in
-    let inside = inside_of cell.n cell.samples.now in
-    held-cell cell.n cell.x cell.y parity.layer parity.row (omega (arith, cell.of_grid.in-x)) (omega (arith, cell.of_grid.in-y)) parity.layer_le parity.row_le
-    cell.samples.now cell.z inside (in_threes (get_or rows args.case 0)) args.work.now c.found-current.result args.vertices.now args.indices.now args.counts _ _ _ _ c.regular_visits.result
-    (row-edges inside cell.x cell.y cell.z args.case given.2 rows given.0)
-    (row-edges-all inside cell.x cell.y cell.z args.case given.2 rows given.0) c.found-current.ensures c.regular_visits.ensures.result_after
+    let inside = inside_of cell.size.n cell.samples.now in
+    held-cell cell.size.n cell.x cell.y parity.layer parity.row (omega (arith, cell.of_grid.in-x)) (omega (arith, cell.of_grid.in-y)) parity.layer_le parity.row_le
+    cell.samples.now cell.z inside (in_threes (get_or rows c.from-index.result 0)) args.work.now c.found-current.result args.vertices.now args.indices.now args.counts _ _ _ _ c.regular_visits.result
+    (row-edges inside cell.x cell.y cell.z c.from-index.result byte rows given.0)
+    (row-edges-all inside cell.x cell.y cell.z c.from-index.result byte rows given.0) c.found-current.ensures c.regular_visits.ensures.result_after
 
 pub returns-then-counts-is_regular-clause-written_bound : goal.returns-then-counts-is_regular-clause-written_bound
 returns-then-counts-is_regular-clause-written_bound c =
     let given = c.requires.rows_value in
-    omega (arith, c.regular_visits.ensures.written_value, row_count _ _ _ _ c.args.case given.2 c.args.rows.now given.0)
+    let byte = c.from-index.ensures ∙ given.2 in
+    omega (arith, c.regular_visits.ensures.written_value, row_count _ _ _ _ c.from-index.result byte c.args.rows.now given.0)
 
 -- any other
 pub invariant_of-edges : goal.invariant_of-edges
 invariant_of-edges c =
     let given = c.requires.rows_value in
-    record { known = row-edges-all _ _ _ _ c.args.case given.2 c.args.rows.now given.0 }
+    let byte = c.from-index.ensures ∙ given.2 in
+    record { known = row-edges-all _ _ _ _ c.from-index.result byte c.args.rows.now given.0 }
 
 pub visit_all-requires-clause-written_fits : goal.visit_all-requires-clause-written_fits
 visit_all-requires-clause-written_fits c =
     let given = c.requires.rows_value in
-    omega (arith, row_count _ _ _ _ c.args.case given.2 c.args.rows.now given.0, c.requires.written_fits)
+    let byte = c.from-index.ensures ∙ given.2 in
+    omega (arith, row_count _ _ _ _ c.from-index.result byte c.args.rows.now given.0, c.requires.written_fits)
 
 pub returns-clause-result_after : goal.returns-clause-result_after
 returns-clause-result_after c =
@@ -68,14 +61,16 @@ returns-clause-result_after c =
     let cell = args.cell in
     let parity = args.parity in
     let given = c.requires.rows_value in
+    let byte = c.from-index.ensures ∙ given.2 in
     let rows = args.rows.now in
-    let inside = inside_of cell.n cell.samples.now in
-    held-cell cell.n cell.x cell.y parity.layer parity.row (omega (arith, cell.of_grid.in-x)) (omega (arith, cell.of_grid.in-y)) parity.layer_le parity.row_le
-    cell.samples.now cell.z inside (in_threes (get_or rows args.case 0)) args.work.now c.found-current.result args.vertices.now args.indices.now args.counts _ _ _ _ c.visit_all.result
-    (row-edges inside cell.x cell.y cell.z args.case given.2 rows given.0)
-    (row-edges-all inside cell.x cell.y cell.z args.case given.2 rows given.0) c.found-current.ensures c.visit_all.ensures.result_after
+    let inside = inside_of cell.size.n cell.samples.now in
+    held-cell cell.size.n cell.x cell.y parity.layer parity.row (omega (arith, cell.of_grid.in-x)) (omega (arith, cell.of_grid.in-y)) parity.layer_le parity.row_le
+    cell.samples.now cell.z inside (in_threes (get_or rows c.from-index.result 0)) args.work.now c.found-current.result args.vertices.now args.indices.now args.counts _ _ _ _ c.visit_all.result
+    (row-edges inside cell.x cell.y cell.z c.from-index.result byte rows given.0)
+    (row-edges-all inside cell.x cell.y cell.z c.from-index.result byte rows given.0) c.found-current.ensures c.visit_all.ensures.result_after
 
 pub returns-clause-written_bound : goal.returns-clause-written_bound
 returns-clause-written_bound c =
     let given = c.requires.rows_value in
-    omega (arith, c.visit_all.ensures.written_value, row_count _ _ _ _ c.args.case given.2 c.args.rows.now given.0)
+    let byte = c.from-index.ensures ∙ given.2 in
+    omega (arith, c.visit_all.ensures.written_value, row_count _ _ _ _ c.from-index.result byte c.args.rows.now given.0)

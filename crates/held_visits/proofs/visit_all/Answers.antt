@@ -31,7 +31,7 @@ loop-edge-preserved c =
       c.visit-counts.auto.work ∙ inv.3,
       c.visit-counts.auto.vertices ∙ inv.4,
       c.visit-counts.auto.indices ∙ inv.5,
-      turn-taken cell.n cell.samples.now cell.x cell.y cell.z c.in-Some.edge (edges_left c.loop-edge.edge-iterator) _ _
+      turn-taken cell.size.n cell.samples.now cell.x cell.y cell.z c.in-Some.edge (edges_left c.loop-edge.edge-iterator) _ _
           (in_hand (in_cell c.loop-edge.work args.parity.layer args.parity.row c.loop-edge.current) c.loop-edge.vertices c.loop-edge.indices c.loop-edge.counts)
           (in_hand (in_cell c.visit-counts.new.work args.parity.layer args.parity.row c.visit-counts.new.current) c.visit-counts.new.vertices c.visit-counts.new.indices c.visit-counts.result)
           (in_hand (in_cell args.work.now args.parity.layer args.parity.row args.current.now) args.vertices.now args.indices.now args.counts)
@@ -42,7 +42,7 @@ pub returns-clause-result_after : goal.returns-clause-result_after
 returns-clause-result_after c =
     let args = c.args in
     let cell = args.cell in
-    all-taken cell.n cell.samples.now cell.x cell.y cell.z (edges_left c.loop-edge.edge-iterator) _ _
+    all-taken cell.size.n cell.samples.now cell.x cell.y cell.z (edges_left c.loop-edge.edge-iterator) _ _
     (in_hand (in_cell args.work.now args.parity.layer args.parity.row args.current.now) args.vertices.now args.indices.now args.counts)
     c.in-None.ensures.steps.0 c.loop-edge.invariant.6
 

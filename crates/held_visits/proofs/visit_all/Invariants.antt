@@ -15,6 +15,6 @@ invariant-loop-edge l =
     × (length l.work ≡ length l.initial.work)
     × (length l.vertices ≡ length l.initial.vertices)
     × (length l.indices ≡ length l.initial.indices)
-    × ToGo l.cell.n l.cell.samples.now l.cell.x l.cell.y l.cell.z (edges_left l.edge-iterator)
+    × ToGo l.cell.size.n l.cell.samples.now l.cell.x l.cell.y l.cell.z (edges_left l.edge-iterator)
     (in_hand (in_cell l.work l.parity.layer l.parity.row l.current) l.vertices l.indices l.counts) (edges_left l.fn.edges)
     (in_hand (in_cell l.initial.work l.parity.layer l.parity.row l.initial.current) l.initial.vertices l.initial.indices l.initial.counts)

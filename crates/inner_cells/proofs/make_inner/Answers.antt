@@ -11,7 +11,7 @@ returns-clause-by_index c =
     let args = c.args in
     let cell = args.here.cell in
     let word = args.word in
-    let make = make_ranked (store_at cell.n cell.samples.now) cell.n cell.z cell.y cell.x in
+    let make = make_ranked (store_at cell.size.n cell.samples.now) cell.size.n cell.z cell.y cell.x in
     λ l written.
     each_both make (upper_marked word) (marked 10 (word / 2 ^ 24 % 16)) (hand args.work.now args.vertices.now l args.made written) _ _
     (each_both make (marked 5 (word / 2 ^ 16 % 16)) (marked 6 (word / 2 ^ 20 % 16)) (hand args.work.now args.vertices.now l args.made written) _ _

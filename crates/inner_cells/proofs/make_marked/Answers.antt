@@ -10,7 +10,7 @@ returns-then-mark-gt0 c =
     let args = c.args in
     let cell = args.here.cell in
     λ l written.
-    marked-present (store_at cell.n cell.samples.now) cell.n cell.x cell.y cell.z args.edge args.mark args.made written c.place.result
+    marked-present (store_at cell.size.n cell.samples.now) cell.size.n cell.x cell.y cell.z args.edge args.mark args.made written c.place.result
     args.work.now l _ args.vertices.now _ c.place.ensures.slot_of c.requires.edge_bound.0 c.if-mark-gt0.true refl c.put_vertex.ensures
 
 -- no mark
@@ -19,4 +19,4 @@ returns-else-mark-gt0 c =
     let args = c.args in
     let cell = args.here.cell in
     λ l written.
-    marked-absent (store_at cell.n cell.samples.now) cell.n cell.x cell.y cell.z args.edge args.mark _ c.if-mark-gt0.false
+    marked-absent (store_at cell.size.n cell.samples.now) cell.size.n cell.x cell.y cell.z args.edge args.mark _ c.if-mark-gt0.false

@@ -10,40 +10,34 @@ use Rattle.lent_mesh.specs.Grid.{inside_of}
 use Rattle.lent_mesh.specs.Stored.{store_at, in_hand}
 use Rattle.joined_slots.proofs.TwelveSlots.{slots-from}
 use Rattle.joined_edges.proofs.PackedSteps.{row-of-numbers}
-use Rattle.joined_edges.proofs.CellWords.{cell-words, case-lt, class-lt, counts-grown, cell-passes}
+use Rattle.joined_edges.proofs.CellWords.{cell-words, class-lt, counts-grown, cell-passes}
 use Rattle.joined_edges.proofs.joined_cell.Goals as goal
-
-pub offset_bounds-rows-case : goal.offset_bounds-rows-case
-offset_bounds-rows-case c = omega (arith, case-lt _ _ _ _ _ c.requires.case_value.0)
-
-pub bounds-rows-case : goal.bounds-rows-case
-bounds-rows-case c = case-lt _ _ _ _ _ c.requires.case_value.0
 
 pub invariant_of-here : goal.invariant_of-here
 invariant_of-here c =
     let cell = c.args.cell in
-    record { slots_are = slots-from _ cell.n cell.x cell.y cell.z c.args.slots.now c.requires.rows_value.2 refl }
+    record { slots_are = slots-from _ cell.size.n cell.x cell.y cell.z c.args.slots.now c.requires.rows_value.2 refl }
 
 pub make_new-made-requires-clause-news_value : goal.make_new-made-requires-clause-news_value
 make_new-made-requires-clause-news_value c =
     let cell = c.args.cell in
-    (c.requires.rows_value.1, case-lt _ _ _ _ _ c.requires.case_value.0, class-lt cell.x cell.y cell.z _ c.requires.case_value.1)
+    (c.requires.rows_value.1, class-lt cell.x cell.y cell.z _ c.requires.case_value.1)
 
 pub invariant_of-list : goal.invariant_of-list
 invariant_of-list c =
     let given = c.requires in
-    record { known = (cell-words _ _ _ _ _ _ _ _ given.rows_value.0 given.rows_value.1 given.case_value.0 given.case_value.1).row-known }
+    record { known = (cell-words _ _ _ _ _ _ _ _ _ given.rows_value.0 given.rows_value.1 c.from.ensures given.case_value.0 given.case_value.1).row-known }
 
 pub put_numbers-written-requires-clause-place_fits : goal.put_numbers-written-requires-clause-place_fits
 put_numbers-written-requires-clause-place_fits c =
     let given = c.requires in
-    let w = cell-words _ _ _ _ _ _ _ _ given.rows_value.0 given.rows_value.1 given.case_value.0 given.case_value.1 in
+    let w = cell-words _ _ _ _ _ _ _ _ _ given.rows_value.0 given.rows_value.1 c.from.ensures given.case_value.0 given.case_value.1 in
     omega (arith, w.row-most, given.n_in_bounds.1)
 
 pub invariant_of-result : goal.invariant_of-result
 invariant_of-result c =
     let given = c.requires in
-    let w = cell-words _ _ _ _ _ _ _ _ given.rows_value.0 given.rows_value.1 given.case_value.0 given.case_value.1 in
+    let w = cell-words _ _ _ _ _ _ _ _ _ given.rows_value.0 given.rows_value.1 c.from.ensures given.case_value.0 given.case_value.1 in
     record { ordered = (counts-grown _ _ _ _ _ _ _ _ w c.args.counts.ordered c.make_new-made.ensures.made_value c.put_numbers-written.ensures.place_value).0 }
 
 pub returns-clause-result_after : goal.returns-clause-result_after
@@ -51,19 +45,19 @@ returns-clause-result_after c =
     let args = c.args in
     let cell = args.cell in
     let given = c.requires in
-    let store = store_at cell.n cell.samples.now in
+    let store = store_at cell.size.n cell.samples.now in
     let work = c.make_new-made.new.work in
-    cell-passes (inside_of cell.n cell.samples.now) cell.x cell.y cell.z args.class args.case _ _ given.case_value.0 given.case_value.1
-    (cell-words _ _ _ _ _ _ _ _ given.rows_value.0 given.rows_value.1 given.case_value.0 given.case_value.1)
-    store cell.n (in_hand args.work.now args.vertices.now args.indices.now args.counts) _ _
+    cell-passes (inside_of cell.size.n cell.samples.now) cell.x cell.y cell.z args.class args.case _ _ given.case_value.0 given.case_value.1
+    (cell-words _ _ _ _ _ _ _ _ _ given.rows_value.0 given.rows_value.1 c.from.ensures given.case_value.0 given.case_value.1)
+    store cell.size.n (in_hand args.work.now args.vertices.now args.indices.now args.counts) _ _
     (c.make_new-made.ensures.by_index args.indices.now args.counts.written)
-    (row-of-numbers store cell.n cell.x cell.y cell.z (get_or args.rows.now args.case 0 / 2 ^ 60) (get_or args.rows.now args.case 0 % 2 ^ 60)
+    (row-of-numbers store cell.size.n cell.x cell.y cell.z (get_or args.rows.now c.from.result 0 / 2 ^ 60) (get_or args.rows.now c.from.result 0 % 2 ^ 60)
     work args.indices.now _ _ c.make_new-made.result args.counts.written c.put_numbers-written.result
-    (c.put_numbers-written.ensures.by_number (λ e. get_or work (slot cell.n (edge_of (edge_visit cell.x cell.y cell.z e))) 0) (λ e k below told. search rules))
+    (c.put_numbers-written.ensures.by_number (λ e. get_or work (slot cell.size.n (edge_of (edge_visit cell.x cell.y cell.z e))) 0) (λ e k below told. search rules))
     c.put_numbers-written.ensures.place_value)
 
 pub returns-clause-written_bound : goal.returns-clause-written_bound
 returns-clause-written_bound c =
     let given = c.requires in
-    let w = cell-words _ _ _ _ _ _ _ _ given.rows_value.0 given.rows_value.1 given.case_value.0 given.case_value.1 in
+    let w = cell-words _ _ _ _ _ _ _ _ _ given.rows_value.0 given.rows_value.1 c.from.ensures given.case_value.0 given.case_value.1 in
     omega (arith, w.row-most, c.put_numbers-written.ensures.place_value)

@@ -15,7 +15,7 @@ pub loop-edge-init : goal.loop-edge-init
 loop-edge-init c =
     let args = c.args in
     let cell = args.here.cell in
-    let make = make_edge (store_at cell.n cell.samples.now) cell.n cell.z cell.y cell.x in
+    let make = make_edge (store_at cell.size.n cell.samples.now) cell.size.n cell.z cell.y cell.x in
     let same = c.into_iter-edge-iterator.ensures.into_iter_gives in
     record {
       counted = ap (λ (list : PackedEdges). args.made + list.count) same;
@@ -40,7 +40,7 @@ loop-edge-preserved c =
     record {
       counted = omega (arith, c.loop-edge.invariant.counted);
       whole = λ l written.
-          sym (make-next (store_at cell.n cell.samples.now) cell.n cell.x cell.y cell.z c.in-Some.edge c.place.result c.loop-edge.made written _ _
+          sym (make-next (store_at cell.size.n cell.samples.now) cell.size.n cell.x cell.y cell.z c.in-Some.edge c.place.result c.loop-edge.made written _ _
           c.loop-edge.work l _ c.loop-edge.vertices _ c.in-Some.ensures.steps c.place.ensures.slot_of refl c.put_vertex.ensures)
           ∙ c.loop-edge.invariant.whole l written;
     }
@@ -48,7 +48,7 @@ loop-edge-preserved c =
 pub returns-clause-by_index : goal.returns-clause-by_index
 returns-clause-by_index c l written =
     let cell = c.args.here.cell in
-    sym (each_none (make_edge (store_at cell.n cell.samples.now) cell.n cell.z cell.y cell.x) _ _ c.in-None.ensures.steps.0) ∙ c.loop-edge.invariant.whole l written
+    sym (each_none (make_edge (store_at cell.size.n cell.samples.now) cell.size.n cell.z cell.y cell.x) _ _ c.in-None.ensures.steps.0) ∙ c.loop-edge.invariant.whole l written
 
 pub returns-clause-made_value : goal.returns-clause-made_value
 returns-clause-made_value c =

@@ -14,7 +14,7 @@ invariant-loop-edge l =
     let cell = l.here.cell in
     let all = l.fn.list in
     let rest = l.edge-iterator in
-    let make = make_edge (store_at cell.n cell.samples.now) cell.n cell.z cell.y cell.x in
+    let make = make_edge (store_at cell.size.n cell.samples.now) cell.size.n cell.z cell.y cell.x in
     record {
       counted : l.made + rest.count ≡ l.initial.made + all.count;
       whole : (indices : List ℕ) (written : ℕ) → each make (unpacked rest.count rest.word) (hand l.work l.vertices indices l.made written)

@@ -29,7 +29,7 @@ returns-clause-result_after c =
     let word = args.word in
     let current = args.current.now in
     let held = c.make_regular.new.current in
-    regular-visited cell.n cell.samples.now cell.x cell.y cell.z (omega (arith, cell.of_grid.in-x)) (omega (arith, cell.of_grid.in-y)) regular (in_threes word)
+    regular-visited cell.size.n cell.samples.now cell.x cell.y cell.z (omega (arith, cell.of_grid.in-x)) (omega (arith, cell.of_grid.in-y)) regular (in_threes word)
     args.parity.layer args.parity.row args.work.now current args.vertices.now args.indices.now args.counts _ _ _ _ c.put_numbers-written.result
     (row-regular regular word current row) (row-known regular word current row) (row-absent regular word current row) c.requires.made_nonzero.0 row.twelve
     c.make_regular.ensures

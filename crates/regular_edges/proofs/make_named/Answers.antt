@@ -7,12 +7,12 @@ pub returns-then-regular-edge-eq1 : goal.returns-then-regular-edge-eq1
 returns-then-regular-edge-eq1 c =
     let args = c.args in
     let cell = args.cell in
-    λ is m w. named-there cell.n cell.samples.now cell.x cell.y cell.z args.regular args.made args.edge (hand (in_cell args.work.now args.parity.layer args.parity.row args.current.now) args.vertices.now is m w) _
+    λ is m w. named-there cell.size.n cell.samples.now cell.x cell.y cell.z args.regular args.made args.edge (hand (in_cell args.work.now args.parity.layer args.parity.row args.current.now) args.vertices.now is m w) _
     c.if-regular-edge-eq1.true (c.make_edge.ensures is m w)
 
 pub returns-else-regular-edge-eq1 : goal.returns-else-regular-edge-eq1
 returns-else-regular-edge-eq1 c =
     let args = c.args in
     let cell = args.cell in
-    λ is m w. named-absent cell.n cell.samples.now cell.x cell.y cell.z args.regular args.made args.edge (hand (in_cell args.work.now args.parity.layer args.parity.row args.current.now) args.vertices.now is m w)
+    λ is m w. named-absent cell.size.n cell.samples.now cell.x cell.y cell.z args.regular args.made args.edge (hand (in_cell args.work.now args.parity.layer args.parity.row args.current.now) args.vertices.now is m w)
     c.if-regular-edge-eq1.false

@@ -7,7 +7,7 @@ pub returns : goal.returns
 returns c =
     let args = c.args in
     let cell = args.cell in
-    λ is m w. six-named cell.n cell.samples.now cell.x cell.y cell.z args.regular args.made
+    λ is m w. six-named cell.size.n cell.samples.now cell.x cell.y cell.z args.regular args.made
     (hand (in_cell args.work.now args.parity.layer args.parity.row args.current.now) args.vertices.now is m w) _ _ _ _ _ _
     (c.make_named.ensures is m w) (c.make_named-2.ensures is m w) (c.make_named-3.ensures is m w)
     (c.make_named-4.ensures is m w) (c.make_named-5.ensures is m w) (c.make_named-6.ensures is m w)
