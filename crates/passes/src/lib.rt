@@ -84,6 +84,7 @@ pub fn fill(
     ensures indices_after { indices.new ≡ over (surface_of n (word_of numbering) samples.now).indices indices.old }
 {
     let room = work_room(n);
-    grid_walk::walk(numbering, samples, n, span, work, vertices, indices);
+    let word = numbering.word();
+    grid_walk::walk(word, samples, n, span, work, vertices, indices);
     clear(work, room);
 }
