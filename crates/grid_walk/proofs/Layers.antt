@@ -1,12 +1,15 @@
 -- From layer to layer: the parity of the cache rows, the samples that are there, and the end of a layer.
-use mathlib.Core.Path.{◌≡◌, refl, ap, ◌∙◌}
+use mathlib.Core.Path.{◌≡◌, refl, ap, ◌∙◌, fun_ext}
+use mathlib.Core.Bool.{false}
 use mathlib.Core.List.{List}
 use Prim.Native.Nat.{ℕ, suc, ◌+◌, ◌-◌, ◌*◌, ◌%◌, ◌≤◌, ◌<◌}
 use native.Mathlib.Nat.{suc-mul, mul-le-mul_right}
-use native.Mathlib.Numerals.{add-one}
 use native.Mathlib.Omega.{arith}
+use lib.Dec.{eqb}
 use lib.ListN.{length}
+use borrow.Author.Tests.{ne_eqb}
 use lib.Ieee.{Float}
+use Rattle.walk.specs.Walk.{times}
 use Rattle.walk_models.specs.Owned.{cells_of_layer}
 use Rattle.walk_models.specs.CacheMemory.{clear_row}
 use Rattle.lent_mesh.specs.declared.Counts.{Counts}
@@ -60,6 +63,32 @@ crate-layers n samples k s = refl
 pub joined-layers : (n : ℕ) (samples : List Float) (k : ℕ) (s : Hand) → layers_done (cell_step 1) (λ n z w. w) n samples k s ≡ walk_steps 1 n samples k s
 unfolding layers_done walk_steps layer_step
 joined-layers n samples k s = refl
+
+-- every word but 0 is the joined numbering
+module _ (numbering n : ℕ) (samples : List Float) (some : 0 < numbering) where
+  joined-word : eqb numbering 0 ≡ false
+  joined-word = ne_eqb numbering 0 (λ q. omega (arith, q, some))
+
+  joined-cell : (z y x : ℕ) (s : Hand) → cell_step 1 n samples z y x s ≡ cell_step numbering n samples z y x s
+  unfolding cell_step
+  joined-cell z y x s = rw joined-word refl
+
+  joined-layer : (z : ℕ) (t : Hand)
+      → layer_step 1 n samples z (cells_of_layer (cell_step 1 n samples) n z (n - 1) t)
+      ≡ layer_step numbering n samples z (cells_of_layer (cell_step numbering n samples) n z (n - 1) t)
+  unfolding layer_step
+  joined-layer z t =
+      let cells : cell_step 1 n samples ≡ cell_step numbering n samples =
+      fun_ext (λ z'. fun_ext (λ y. fun_ext (λ x. fun_ext (λ s. joined-cell z' y x s)))) in
+      rw joined-word (ap (λ (step : ℕ → ℕ → ℕ → Hand → Hand). cells_of_layer step n z (n - 1) t) cells)
+
+  pub joined-words : (k : ℕ) (s : Hand) → walk_steps 1 n samples k s ≡ walk_steps numbering n samples k s
+  unfolding walk_steps
+  joined-words k s =
+      let layers : (λ (z : ℕ) (t : Hand). layer_step 1 n samples z (cells_of_layer (cell_step 1 n samples) n z (n - 1) t))
+      ≡ (λ (z : ℕ) (t : Hand). layer_step numbering n samples z (cells_of_layer (cell_step numbering n samples) n z (n - 1) t)) =
+      fun_ext (λ z. fun_ext (λ t. joined-layer z t)) in
+      ap (λ (step : ℕ → Hand → Hand). times k step s) layers
 
 -- ---- the layers in which a count grows, one layer more at a time
 

@@ -4,7 +4,6 @@
 #![tactic(auto)]
 
 ghost use Rattle.std.specs.Prelude.{◌≡◌, ℕ, ◌+◌, ◌-◌, ◌*◌, ◌^◌, ◌≤◌, ◌<◌, length, get_or};
-ghost use Rattle.numbering.specs.Word.{word_of};
 ghost use Rattle.walk.specs.Walk.{visits};
 ghost use Rattle.walk_models.specs.Owned.{cells_of_layer};
 ghost use Rattle.walk_models.specs.Lent.{untouched};
@@ -17,7 +16,6 @@ ghost use Rattle.grid_walk.specs.Growth.{GrowsWithin};
 use grid_size::Size;
 use index_cache::Parity;
 use lent_mesh::Counts;
-use numbering::Numbering;
 use row_walk::CellStep;
 use row_walk::fill::{CrateFill, JoinedFill};
 use row_walk::layer::{Layer, Row};
@@ -150,9 +148,10 @@ pub fn walk_layers<S: CellStep>(
     }
 }
 
-// The mesh of the layers up to the last of the span. The tables are made here and lent.
+// The mesh of the layers up to the last of the span. The tables are made here and lent. The numbering stays a word, for
+// docs/DECISIONS.md names `walk`, and `result_after` speaks of every word: all but 0 are the joined numbering.
 pub fn walk(
-    numbering: Numbering,
+    numbering: u32,
     samples: &[f32],
     size: Size,
     span: Span,
@@ -163,30 +162,27 @@ pub fn walk(
     requires rooms { (size.n * size.n * (size.n + 1) ≤ length samples.now) × (8 * (size.n * size.n) + 6 * size.n ≤ length work.old) }
     requires grows_within { GrowsWithin (λ k. length (visits (inside_of size.n samples.now) size.n k)) size.n span × ((i : ℕ) → i < 8 * (size.n * size.n) + 6 * size.n → get_or work.old i 0 ≡ 0) }
     ensures result_after { in_hand work.new vertices.new indices.new result
-        ≡ walk_steps (word_of numbering) size.n samples.now span.last (untouched work.old vertices.old indices.old) }
+        ≡ walk_steps numbering size.n samples.now span.last (untouched work.old vertices.old indices.old) }
     ensures written_bound { result.written ≤ 31211520 }
 {
     let rows = packed_tables::row_words();
     let coordinates = lent_mesh::coordinates(size);
-    match numbering {
-        Numbering::Crate => {
-            let regulars = packed_tables::regular_words();
-            let step = CrateFill {
-                rows: &rows,
-                regulars: &regulars,
-                coordinates: &coordinates,
-            };
-            walk_layers(&step, samples, size, span, work, vertices, indices).counts
-        }
-        Numbering::Joined => {
-            let news = packed_tables::new_words();
-            let step = JoinedFill {
-                rows: &rows,
-                news: &news,
-                coordinates: &coordinates,
-                slots: [0; 12],
-            };
-            walk_layers(&step, samples, size, span, work, vertices, indices).counts
-        }
+    if numbering == 0 {
+        let regulars = packed_tables::regular_words();
+        let step = CrateFill {
+            rows: &rows,
+            regulars: &regulars,
+            coordinates: &coordinates,
+        };
+        walk_layers(&step, samples, size, span, work, vertices, indices).counts
+    } else {
+        let news = packed_tables::new_words();
+        let step = JoinedFill {
+            rows: &rows,
+            news: &news,
+            coordinates: &coordinates,
+            slots: [0; 12],
+        };
+        walk_layers(&step, samples, size, span, work, vertices, indices).counts
     }
 }

@@ -10,9 +10,9 @@ use Rattle.little_endian.specs.Words.{word_at, words, words_from, bytes_of}
 use Rattle.little_endian.proofs.Words.{words-length, words-at, words-drop}
 use Rattle.little_endian.proofs.Bytes.{Below, below-cons, below-append, below-take, below-drop, words-bytes_of, bytes_of-words, words-below, word_at-lt}
 use Rattle.mesh_record.specs.Mesh.{Mesh, vertex_count, header, record_bytes, Good}
-use Rattle.mesh_record.specs.Refusals.{none}
+use Rattle.mesh_record.specs.Refusals.{none, contents}
 use Rattle.mesh_checks.specs.Reading.{mesh_in, refusal_in}
-use Rattle.mesh_record.proofs.Passed.{Sound}
+use Rattle.mesh_record.proofs.Passed.{Sound, contents-passed}
 use Rattle.mesh_checks.proofs.Contents.{coordinates-length, indices-length, mesh_in-vertices}
 use Rattle.mesh_checks.proofs.Passed.{Whole, refusal_in-known, refusal_in-passed}
 use Rattle.mesh_write.proofs.Puts.{record-length}
@@ -100,6 +100,9 @@ module _ (m : Mesh) (good : Good m) where
 
   pub contents-sound : Sound m
   contents-sound = record { coordinates-finite = good.coordinates-finite; indices-below = good.indices-below }
+
+  pub contents-none : none ≡ contents 28 m
+  contents-none = sym (contents-passed 28 m contents-sound)
 
   -- The record of a good mesh is accepted.
   pub record-accepted : refusal_in (record_bytes m) ≡ none

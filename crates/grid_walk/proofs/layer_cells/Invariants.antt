@@ -1,6 +1,6 @@
 -- `layer_cells`: row after row; the cache rows take turns.
 use mathlib.Core.Path.{◌≡◌}
-use Prim.Native.Nat.{◌-◌, ◌*◌, ◌≤◌}
+use Prim.Native.Nat.{◌-◌, ◌*◌}
 use lib.ListN.{length}
 use Rattle.walk_models.specs.Owned.{cells_of_row}
 use Rattle.lent_mesh.specs.Stored.{in_hand}

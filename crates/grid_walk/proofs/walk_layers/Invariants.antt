@@ -1,13 +1,13 @@
 -- `walk_layers`: layer after layer of the span, from nothing made. The layers before it would leave all as it was, so the walk is as far as if it had taken them.
 use mathlib.Core.Path.{◌≡◌}
-use Prim.Native.Nat.{ℕ, ◌-◌, ◌*◌, ◌≤◌}
+use Prim.Native.Nat.{◌*◌}
 use lib.ListN.{length}
 use Rattle.walk.specs.Walk.{times}
 use Rattle.walk_models.specs.Lent.{untouched}
 use Rattle.lent_mesh.specs.Stored.{in_hand}
 use Rattle.sign_words.specs.Words.{LayerWords}
 use Rattle.sign_cells.proofs.Turns.{Reached}
-use Rattle.row_walk.specs.Steps.{Hand, row_parity}
+use Rattle.row_walk.specs.Steps.{row_parity}
 use Rattle.row_walk.proofs.WordLoop.{hand_count}
 use Rattle.grid_walk.specs.Growth.{GrowsWithin}
 use Rattle.grid_walk.specs.Steps.{layer_done}
