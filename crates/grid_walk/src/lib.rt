@@ -14,6 +14,7 @@ ghost use Rattle.row_walk.specs.Steps.{row_parity};
 ghost use Rattle.grid_walk.specs.Steps.{walk_steps, layers_done};
 ghost use Rattle.grid_walk.specs.Growth.{GrowsWithin};
 
+use grid_size::Size;
 use index_cache::Parity;
 use lent_mesh::Counts;
 use numbering::Numbering;
@@ -47,15 +48,9 @@ impl Span {
         }
         let last = z + 1;
         if before == 0 {
-            return Span {
-                first: z,
-                last: last,
-            };
+            return Span { first: z, last };
         }
-        Span {
-            first: self.first,
-            last: last,
-        }
+        Span { last, ..self }
     }
 }
 
@@ -69,19 +64,19 @@ fn layer_cells<S: CellStep>(
     indices: &mut [u32],
     counts: Counts,
 ) -> Counts
-    requires made_for { S.made_for step.now layer.n × (first ≡ row_parity layer.n layer.z 0) }
-    requires room { (S.room layer.n ≤ length work.old) × (counts.written + 243840 < 2 ^ 32) }
+    requires made_for { S.made_for step.now layer.size.n × (first ≡ row_parity layer.size.n layer.z 0) }
+    requires room { (S.room layer.size.n ≤ length work.old) × (counts.written + 243840 < 2 ^ 32) }
     ensures result_after { in_hand work.new vertices.new indices.new result
-        ≡ cells_of_layer (S.step layer.entry.n layer.entry.samples.now) layer.entry.n layer.entry.z (layer.entry.n - 1) (in_hand work.old vertices.old indices.old counts) }
+        ≡ cells_of_layer (S.step layer.entry.size.n layer.entry.samples.now) layer.entry.size.n layer.entry.z (layer.entry.size.n - 1) (in_hand work.old vertices.old indices.old counts) }
     ensures written_bound { result.written ≤ counts.written + 243840 }
 {
     if let Some(counted) = step.whole_layer(layer, counts) {
         return counted;
     }
-    let here = step.at_layer(layer.n, layer.z);
+    let here = step.at_layer(layer.size, layer.z);
     let mut reached = counts;
     let mut row = first;
-    for y in 0..layer.n - 1 {
+    for y in 0..layer.size.n - 1 {
         let parity = Parity {
             layer: layer.z % 2,
             row,
@@ -106,47 +101,47 @@ fn none_made() -> Counts
 pub fn walk_layers<S: CellStep>(
     step: &S,
     samples: &[f32],
-    n: usize,
+    size: Size,
     span: Span,
     work: &mut [u32],
     vertices: &mut [f32],
     indices: &mut [u32],
 ) -> Reach
-    requires size { (2 ≤ n) × (n ≤ 128) × (n * n * (n + 1) ≤ length samples.now) }
-    requires made_for { S.made_for step.now n × (S.room n ≤ length work.old) }
-    requires begun { (span.first ≤ span.last) × (span.last ≤ n)
-        × (layers_done S.step S.ended n samples.now span.first (untouched work.old vertices.old indices.old) ≡ untouched work.old vertices.old indices.old) }
+    requires samples { size.n * size.n * (size.n + 1) ≤ length samples.now }
+    requires made_for { S.made_for step.now size.n × (S.room size.n ≤ length work.old) }
+    requires begun { (span.first ≤ span.last) × (span.last ≤ size.n)
+        × (layers_done S.step S.ended size.n samples.now span.first (untouched work.old vertices.old indices.old) ≡ untouched work.old vertices.old indices.old) }
     ensures result_after { in_hand work.new vertices.new indices.new result.counts
-        ≡ layers_done S.step S.ended n samples.now span.last (untouched work.old vertices.old indices.old) }
-    ensures grows_within { GrowsWithin (λ k. (layers_done S.step S.ended n samples.now k (untouched work.old vertices.old indices.old)).written) span.last result.span }
+        ≡ layers_done S.step S.ended size.n samples.now span.last (untouched work.old vertices.old indices.old) }
+    ensures grows_within { GrowsWithin (λ k. (layers_done S.step S.ended size.n samples.now k (untouched work.old vertices.old indices.old)).written) span.last result.span }
     ensures written_bound { result.counts.written ≤ 31211520 }
 {
     let mut low = [0u32; 513];
     let mut high = [0u32; 513];
-    sign_words::fill_layer(samples, n, span.first, &mut low);
+    sign_words::fill_layer(samples, size, span.first, &mut low);
     let mut reached = none_made();
     let mut grown = Span {
         first: span.first,
         last: span.first,
     };
-    let mut row = span.first * (n - 1) % 2;
+    let mut row = span.first * (size.n - 1) % 2;
     for z in span.first..span.last {
-        sign_words::fill_layer(samples, n, z + 1, &mut high);
+        sign_words::fill_layer(samples, size, z + 1, &mut high);
         let words = Layers {
             low: &low,
             high: &high,
         };
         let layer = Layer {
             samples,
-            n,
+            size,
             z,
             words,
         };
         let next = layer_cells(step, layer, row, work, vertices, indices, reached);
         grown = grown.after(z, reached.written, next.written);
         reached = next;
-        row = (row + (n - 1)) % 2;
-        step.end_layer(n, row, work);
+        row = (row + (size.n - 1)) % 2;
+        step.end_layer(size, row, work);
         low = high;
     }
     Reach {
@@ -159,20 +154,20 @@ pub fn walk_layers<S: CellStep>(
 pub fn walk(
     numbering: Numbering,
     samples: &[f32],
-    n: usize,
+    size: Size,
     span: Span,
     work: &mut [u32],
     vertices: &mut [f32],
     indices: &mut [u32],
 ) -> Counts
-    requires le_n { (2 ≤ n) × (n ≤ 128) × (n * n * (n + 1) ≤ length samples.now) × (8 * (n * n) + 6 * n ≤ length work.old) }
-    requires grows_within { GrowsWithin (λ k. length (visits (inside_of n samples.now) n k)) n span × ((i : ℕ) → i < 8 * (n * n) + 6 * n → get_or work.old i 0 ≡ 0) }
+    requires rooms { (size.n * size.n * (size.n + 1) ≤ length samples.now) × (8 * (size.n * size.n) + 6 * size.n ≤ length work.old) }
+    requires grows_within { GrowsWithin (λ k. length (visits (inside_of size.n samples.now) size.n k)) size.n span × ((i : ℕ) → i < 8 * (size.n * size.n) + 6 * size.n → get_or work.old i 0 ≡ 0) }
     ensures result_after { in_hand work.new vertices.new indices.new result
-        ≡ walk_steps (word_of numbering) n samples.now span.last (untouched work.old vertices.old indices.old) }
+        ≡ walk_steps (word_of numbering) size.n samples.now span.last (untouched work.old vertices.old indices.old) }
     ensures written_bound { result.written ≤ 31211520 }
 {
     let rows = packed_tables::row_words();
-    let coordinates = lent_mesh::coordinates(n);
+    let coordinates = lent_mesh::coordinates(size);
     match numbering {
         Numbering::Crate => {
             let regulars = packed_tables::regular_words();
@@ -181,7 +176,7 @@ pub fn walk(
                 regulars: &regulars,
                 coordinates: &coordinates,
             };
-            walk_layers(&step, samples, n, span, work, vertices, indices).counts
+            walk_layers(&step, samples, size, span, work, vertices, indices).counts
         }
         Numbering::Joined => {
             let news = packed_tables::new_words();
@@ -191,7 +186,7 @@ pub fn walk(
                 coordinates: &coordinates,
                 slots: [0; 12],
             };
-            walk_layers(&step, samples, n, span, work, vertices, indices).counts
+            walk_layers(&step, samples, size, span, work, vertices, indices).counts
         }
     }
 }

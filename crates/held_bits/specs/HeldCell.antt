@@ -62,7 +62,6 @@ module _ (n l r x y word : ℕ) (s : Held) where
 unfoldable pub clear_held : ℕ → ℕ → ℕ → List ℕ → List ℕ
 clear_held n r k w = times k (λ x t. set t (row_word n r x) 0) w
 
--- what the code may rely on: room for the words
+-- what the code may rely on beside its size: room for the words
 pub record HeldRoom (n : ℕ) (work : List ℕ) : Type 0 where
-  pub most : n ≤ 128
   pub room : held_room n ≤ length work

@@ -20,6 +20,7 @@ pub struct Parity {
 }
 
 // Where the four words of the place (x, y) in a layer begin.
+// These bounds stay clauses: a cell and its `Parity` give them, and a type would be made anew for each of these calls.
 fn layer_place(size: Size, x: usize, y: usize, layer: usize) -> usize
     requires { (x < size.n) × (y < size.n) × (layer ≤ 1) }
     ensures { (result ≡ 8 * (y * size.n + x) + 4 * layer) × (result + 4 ≤ 8 * (size.n * size.n)) }

@@ -9,19 +9,18 @@ ghost use Rattle.joined_slots.specs.OneCell.{count_of};
 ghost use Rattle.layer_tally.specs.Layer.{Masks, Firsts, NextFrom, CornersFrom, WordsCounted, RowsOutside, LayerCounted};
 
 use cell_tally::Corners;
+use grid_size::Size;
 use lent_mesh::Counts;
 use sign_words::Layers;
 
-// The bits of a layer's words that stand for cells, and those for the first cell of each row, in a grid of n
-// samples to a side. It has 4 KB: lend it.
+// The bits of a layer's words that stand for cells, and those for the first cell of each row, in a grid of a
+// size. It has 4 KB: lend it.
 #[derive(Drop)]
 pub struct CellMasks {
     pub masks: [u32; 513],
     pub firsts: [u32; 513],
-    pub n: usize,
-    pub ghost least: { 2 ≤ n },
-    pub ghost most: { n ≤ 128 },
-    pub ghost masks_are: { Masks n masks },
+    pub size: Size,
+    pub ghost masks_are: { Masks size.n masks },
     pub ghost firsts_are: { Firsts firsts },
 }
 
@@ -56,14 +55,13 @@ fn firsts() -> [u32; 513]
 }
 
 // The masks of a size, to be made once and lent.
-pub fn cell_masks(n: usize) -> CellMasks
-    requires { (2 ≤ n) × (n ≤ 128) }
-    ensures { result.n ≡ n }
+pub fn cell_masks(size: Size) -> CellMasks
+    ensures { result.size.n ≡ size.n }
 {
     CellMasks {
-        masks: masks(n),
+        masks: masks(size.n),
         firsts: firsts(),
-        n,
+        size,
     }
 }
 
@@ -111,9 +109,9 @@ fn tally_words(
     top: u32,
     counts: Counts,
 ) -> Counts
-    requires from_le_to { (from ≤ to) × (to ≤ 4 * (masks.now.n - 1)) }
+    requires from_le_to { (from ≤ to) × (to ≤ 4 * (masks.now.size.n - 1)) }
     requires written_fits { counts.written + 480 * (to - from) < 2 ^ 32 }
-    ensures words_counted { WordsCounted layers.entry.low.now layers.entry.high.now masks.now.n from to top (count_of counts) (count_of result) }
+    ensures words_counted { WordsCounted layers.entry.low.now layers.entry.high.now masks.now.size.n from to top (count_of counts) (count_of result) }
     ensures written_bound { result.written ≤ counts.written + 480 * (to - from) }
 {
     let mut made = counts.made;
@@ -128,26 +126,25 @@ fn tally_words(
 }
 
 // How many rows at the start are outside throughout.
-fn rows_outside(layers: Layers, n: usize) -> usize
-    requires { (2 ≤ n) × (n ≤ 128) }
-    ensures { RowsOutside layers.entry.low.now layers.entry.high.now n result × (result ≤ n - 1) }
+fn rows_outside(layers: Layers, size: Size) -> usize
+    ensures { RowsOutside layers.entry.low.now layers.entry.high.now size.n result × (result ≤ size.n - 1) }
 {
-    for y in 0..n - 1 {
+    for y in 0..size.n - 1 {
         if !sign_cells::outside(layers, y) {
             return y;
         }
     }
-    n - 1
+    size.n - 1
 }
 
 // The layer between the sign words of two sample layers.
 pub fn tally_layer(masks: &CellMasks, layers: Layers, counts: Counts) -> Counts
     requires { counts.written + 243840 < 2 ^ 32 }
-    ensures layer_counted { LayerCounted layers.entry.low.now layers.entry.high.now masks.now.n (count_of counts) (count_of result) }
+    ensures layer_counted { LayerCounted layers.entry.low.now layers.entry.high.now masks.now.size.n (count_of counts) (count_of result) }
     ensures written_bound { result.written ≤ counts.written + 243840 }
 {
-    let first = rows_outside(layers, masks.n);
-    let end = 4 * (masks.n - 1);
+    let first = rows_outside(layers, masks.size);
+    let end = 4 * (masks.size.n - 1);
     if first == 0 {
         let begun = tally_words(masks, layers, 0, 4, 0xFFFF_FFFF, counts);
         tally_words(masks, layers, 4, end, 0, begun)

@@ -23,6 +23,7 @@ pub struct Cell<'a> {
 
 // How far the end of an edge lies from its cell's corner 0 along one axis: `offsets` has a bit for
 // each edge.
+// `edge < 12` stays a clause, here and above: it indexes five tables and is mostly a literal, which a type would wrap.
 fn offset(offsets: usize, edge: usize) -> usize
     requires { (edge < 12) × (offsets < 4096) }
     ensures { (result ≡ offsets / 2 ^ edge % 2) × (result ≤ 1) }

@@ -10,21 +10,11 @@ ghost use Rattle.sample_check.specs.Samples.{lowest_bad};
 ghost use Rattle.outcome.specs.Outcome.{Outcome, surface_of, left, refused, filled, outcome};
 ghost use Rattle.passes.specs.Accepted.{Accepted};
 
+use grid_size::Size;
 use lent_mesh::Counts;
 use numbering::Numbering;
 use outcome::Answer;
 use refusals::Refusal;
-
-fn refused(refusal: Refusal) -> Answer
-    ensures { result ≡ record { cause = cause_of refusal; place = place_of refusal; vertices = 0; indices = 0 } }
-{
-    Answer {
-        cause: refusal.cause(),
-        place: refusal.place(),
-        vertices: 0,
-        indices: 0,
-    }
-}
 
 // The answer of a grid that was counted; 0, 6 and 7 are the causes that C reads.
 fn counted(cause: u32, counts: Counts) -> Answer
@@ -42,16 +32,16 @@ fn counted(cause: u32, counts: Counts) -> Answer
 fn meshed(
     numbering: Numbering,
     samples: &[f32],
-    n: usize,
+    size: Size,
     work: &mut [u32],
     vertices: &mut [f32],
     indices: &mut [u32],
 ) -> Answer
-    requires { Accepted n samples.now work.old }
+    requires { Accepted size.n samples.now work.old }
     ensures { left result work.new vertices.new indices.new
-        ≡ filled n (word_of numbering) samples.now work.old vertices.old indices.old (surface_of n (word_of numbering) samples.now) }
+        ≡ filled size.n (word_of numbering) samples.now work.old vertices.old indices.old (surface_of size.n (word_of numbering) samples.now) }
 {
-    let reach = passes::count(numbering, samples, n, work);
+    let reach = passes::count(numbering, samples, size, work);
     let counts = reach.counts;
     let floats = 3 * (counts.made as usize);
     if vertices.len() < floats {
@@ -63,34 +53,33 @@ fn meshed(
     if counts.written == 0 {
         return counted(0, counts);
     }
-    passes::fill(numbering, samples, n, reach.span, work, vertices, indices);
+    passes::fill(numbering, samples, size, reach.span, work, vertices, indices);
     counted(0, counts)
 }
 
 // Causes 1 to 5, tried in order.
-fn checked(size: u32, numbering: u32, samples: &[f32], work: &[u32]) -> Result<Numbering, Refusal>
-    ensures accepted { IfOk result (λ known. Accepted size samples.now work.now × (word_of known ≡ numbering) × (length samples.now ≤ lowest_bad samples.now)) }
+fn checked(
+    size: u32,
+    numbering: u32,
+    samples: &[f32],
+    work: &[u32],
+) -> Result<(Size, Numbering), Refusal>
+    ensures accepted { IfOk result (λ known. (known.0.n ≡ size) × Accepted size samples.now work.now × (word_of known.1 ≡ numbering) × (length samples.now ≤ lowest_bad samples.now)) }
     ensures refused { IfErr result (λ refusal. (vertices : List Float) (indices : List ℕ) → outcome size numbering samples.now work.now vertices indices
         ≡ refused size numbering samples.now work.now vertices indices (cause_of refusal) (place_of refusal)) }
 {
-    if size < 2 {
-        return Err(Refusal::Size);
-    }
-    if 128 < size {
-        return Err(Refusal::Size);
-    }
+    let grid = Size::try_from(size)?;
     let known = Numbering::try_from(numbering)?;
-    let n = size as usize;
-    if samples.len() != n * n * (n + 1) {
+    if samples.len() != grid.samples() {
         return Err(Refusal::SampleCount);
     }
-    if work.len() < passes::work_room(n) {
+    if work.len() < grid.work_room() {
         return Err(Refusal::WorkingMemory);
     }
     if let Some(at) = sample_check::lowest_bad(samples) {
         return Err(Refusal::Sample(at as u64));
     }
-    Ok(known)
+    Ok((grid, known))
 }
 
 // The mesh of the lent samples, in the crate numbering (0) or the joined (1). Causes 1 to 7 are tried in
@@ -109,7 +98,7 @@ pub fn extract(
         ≡ outcome size numbering samples.now work.old vertices.old indices.old }
 {
     match checked(size, numbering, samples, work) {
-        Ok(known) => meshed(known, samples, size as usize, work, vertices, indices),
-        Err(refusal) => refused(refusal),
+        Ok((grid, known)) => meshed(known, samples, grid, work, vertices, indices),
+        Err(refusal) => refusal.into(),
     }
 }

@@ -12,6 +12,7 @@ ghost use Rattle.held_bits.specs.HeldCell.{held_room, clear_held};
 ghost use Rattle.row_count.specs.Steps.{counting};
 ghost use Rattle.row_count.specs.IdleCells.{counting-idle};
 
+use grid_size::Size;
 use layer_tally::CellMasks;
 use lent_mesh::Counts;
 use row_walk::CellStep;
@@ -43,7 +44,7 @@ impl CellStep for CrateCount<'_> {
 
     ghost ready = { λ s n z. ⊤ };
 
-    fn at_layer(&self, n: usize, z: usize) -> Self {
+    fn at_layer(&self, size: Size, z: usize) -> Self {
         *self
     }
 
@@ -58,7 +59,7 @@ impl CellStep for CrateCount<'_> {
         let row = here.row;
         held_bits::held_cell(
             self.names,
-            row.layer.n,
+            row.layer.size,
             here.x,
             row.y,
             here.case,
@@ -68,12 +69,8 @@ impl CellStep for CrateCount<'_> {
         )
     }
 
-    fn whole_layer(&self, layer: Layer, counts: Counts) -> Option<Counts> {
-        None
-    }
-
-    fn end_layer(&self, n: usize, row: usize, work: &mut [u32]) {
-        held_bits::clear_held(work, n, row);
+    fn end_layer(&self, size: Size, row: usize, work: &mut [u32]) {
+        held_bits::clear_held(work, size, row);
     }
 
     ghost idle = { counting-idle 0 };
@@ -86,11 +83,11 @@ impl CellStep for JoinedCount<'_> {
 
     ghost room = { λ n. 0 };
 
-    ghost made_for = { λ s n. s.masks.now.n ≡ n };
+    ghost made_for = { λ s n. s.masks.now.size.n ≡ n };
 
     ghost ready = { λ s n z. ⊤ };
 
-    fn at_layer(&self, n: usize, z: usize) -> Self {
+    fn at_layer(&self, size: Size, z: usize) -> Self {
         *self
     }
 
@@ -112,7 +109,7 @@ impl CellStep for JoinedCount<'_> {
         None
     }
 
-    fn end_layer(&self, n: usize, row: usize, work: &mut [u32]) {}
+    fn end_layer(&self, size: Size, row: usize, work: &mut [u32]) {}
 
     ghost idle = { counting-idle 1 };
 }

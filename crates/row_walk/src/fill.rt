@@ -10,7 +10,8 @@ ghost use Rattle.row_walk.specs.Steps.{row_parity, cell_step};
 ghost use Rattle.row_walk.specs.IdleCells.{cell_step-idle};
 
 use crate::CellStep;
-use crate::layer::{Crossed, Layer};
+use crate::layer::Crossed;
+use grid_size::Size;
 use lent_mesh::Counts;
 use lent_mesh::cell::Cell;
 
@@ -46,7 +47,7 @@ impl CellStep for CrateFill<'_> {
 
     ghost ready = { λ s n z. Coordinates n s.coordinates.now };
 
-    fn at_layer(&self, n: usize, z: usize) -> Self {
+    fn at_layer(&self, size: Size, z: usize) -> Self {
         *self
     }
 
@@ -61,7 +62,7 @@ impl CellStep for CrateFill<'_> {
         let cell = Cell {
             samples: here.row.layer.samples,
             coordinates: self.coordinates,
-            n: here.row.layer.n,
+            size: here.row.layer.size,
             x: here.x,
             y: here.row.y,
             z: here.row.layer.z,
@@ -79,12 +80,8 @@ impl CellStep for CrateFill<'_> {
         )
     }
 
-    fn whole_layer(&self, layer: Layer, counts: Counts) -> Option<Counts> {
-        None
-    }
-
-    fn end_layer(&self, n: usize, row: usize, work: &mut [u32]) {
-        index_cache::clear_row(work, n, row);
+    fn end_layer(&self, size: Size, row: usize, work: &mut [u32]) {
+        index_cache::clear_row(work, size, row);
     }
 
     ghost idle = { cell_step-idle 0 };
@@ -101,12 +98,12 @@ impl CellStep for JoinedFill<'_> {
 
     ghost ready = { λ s n z. Coordinates n s.coordinates.now × Slots n z s.slots };
 
-    fn at_layer(&self, n: usize, z: usize) -> Self {
+    fn at_layer(&self, size: Size, z: usize) -> Self {
         JoinedFill {
             rows: self.rows,
             news: self.news,
             coordinates: self.coordinates,
-            slots: joined_slots::slots(n, z),
+            slots: joined_slots::slots(size, z),
         }
     }
 
@@ -121,7 +118,7 @@ impl CellStep for JoinedFill<'_> {
         let cell = Cell {
             samples: here.row.layer.samples,
             coordinates: self.coordinates,
-            n: here.row.layer.n,
+            size: here.row.layer.size,
             x: here.x,
             y: here.row.y,
             z: here.row.layer.z,
@@ -141,11 +138,7 @@ impl CellStep for JoinedFill<'_> {
         )
     }
 
-    fn whole_layer(&self, layer: Layer, counts: Counts) -> Option<Counts> {
-        None
-    }
-
-    fn end_layer(&self, n: usize, row: usize, work: &mut [u32]) {}
+    fn end_layer(&self, size: Size, row: usize, work: &mut [u32]) {}
 
     ghost idle = { cell_step-idle 1 };
 }

@@ -10,20 +10,21 @@ ghost use Rattle.joined_slots.specs.OneCell.{class_of};
 ghost use Rattle.row_walk.specs.Steps.{layer_parity, row_parity};
 ghost use Rattle.row_walk.specs.Ready.{LayerOf};
 
+use grid_size::Size;
 use index_cache::Parity;
 use sign_cells::Quad;
 use sign_words::Layers;
 
-// Layer z of a grid of size n, with the sign words of the samples below it and above it.
+// Layer z of a grid, with the sign words of the samples below it and above it.
 #[derive(Clone, Copy)]
 pub struct Layer<'a, 'b> {
     pub samples: &'a [f32],
-    pub n: usize,
+    pub size: Size,
     pub z: usize,
     pub words: Layers<'b>,
-    pub ghost of_grid: { LayerOf samples.now n z },
-    pub ghost low_are: { LayerWords n samples.now z words.low.now },
-    pub ghost high_are: { LayerWords n samples.now (z + 1) words.high.now },
+    pub ghost of_grid: { LayerOf samples.now size.n z },
+    pub ghost low_are: { LayerWords size.n samples.now z words.low.now },
+    pub ghost high_are: { LayerWords size.n samples.now (z + 1) words.high.now },
 }
 
 // Row y of a layer, and which parts of the index cache its cells read.
@@ -32,8 +33,8 @@ pub struct Row<'a, 'b> {
     pub layer: Layer<'a, 'b>,
     pub y: usize,
     pub parity: Parity,
-    pub ghost in_y: { y + 1 < layer.n },
-    pub ghost parity_is: { (parity.layer ≡ layer_parity layer.z) × (parity.row ≡ row_parity layer.n layer.z y) },
+    pub ghost in_y: { y + 1 < layer.size.n },
+    pub ghost parity_is: { (parity.layer ≡ layer_parity layer.z) × (parity.row ≡ row_parity layer.size.n layer.z y) },
 }
 
 // Word k of a row: the signs of its cells' corners, and the class of the row's cells but the first.
@@ -43,8 +44,8 @@ pub struct Word<'a, 'b> {
     pub k: usize,
     pub quad: Quad,
     pub class: usize,
-    pub ghost in_row: { 32 * k < row.layer.n - 1 },
-    pub ghost quad_of: { QuadOf row.layer.n row.layer.samples.now row.y row.layer.z k quad },
+    pub ghost in_row: { 32 * k < row.layer.size.n - 1 },
+    pub ghost quad_of: { QuadOf row.layer.size.n row.layer.samples.now row.y row.layer.z k quad },
     pub ghost class_is: { (class ≡ class_of 1 row.y row.layer.z) × (class ≤ 6) },
 }
 
@@ -53,18 +54,18 @@ pub struct Word<'a, 'b> {
 pub struct Crossed<'a, 'b> {
     pub row: Row<'a, 'b>,
     pub x: usize,
-    pub case: usize,
+    pub case: u8,
     pub class: usize,
     pub dense: bool,
-    pub ghost in_x: { x + 1 < row.layer.n },
-    pub ghost case_is: { (case ≡ signs (inside_of row.layer.n row.layer.samples.now) x row.y row.layer.z) × (case < 256) },
+    pub ghost in_x: { x + 1 < row.layer.size.n },
+    pub ghost case_is: { case ≡ signs (inside_of row.layer.size.n row.layer.samples.now) x row.y row.layer.z },
     pub ghost class_is: { class ≡ class_of x row.y row.layer.z },
 }
 
 impl<'a, 'b> Row<'a, 'b> {
     // Word k, where the row has one.
     pub fn word(self, k: usize, class: usize) -> Word<'a, 'b>
-        requires { (32 * k < self.layer.n - 1) × (class ≡ class_of 1 self.y self.layer.z) × (class ≤ 6) }
+        requires { (32 * k < self.layer.size.n - 1) × (class ≡ class_of 1 self.y self.layer.z) × (class ≤ 6) }
         ensures { (result.row ≡ self.entry) × (result.k ≡ k) }
     {
         let quad = Quad::at(self.layer.words, self.y, k);
@@ -80,7 +81,7 @@ impl<'a, 'b> Row<'a, 'b> {
 impl<'a, 'b> Word<'a, 'b> {
     // Cell i of the word.
     pub fn cell(self, i: u32, dense: bool) -> Crossed<'a, 'b>
-        requires { i < cells_in self.row.layer.n self.k }
+        requires { i < cells_in self.row.layer.size.n self.k }
         ensures { (result.row ≡ self.entry.row) × (result.x ≡ 32 * self.entry.k + i) }
     {
         let x = 32 * self.k + (i as usize);

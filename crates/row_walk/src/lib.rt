@@ -14,6 +14,7 @@ ghost use Rattle.lent_mesh.specs.Stored.{in_hand};
 ghost use Rattle.sign_cells.specs.Cells.{cells_in};
 ghost use Rattle.row_walk.specs.Steps.{Hand, row_parity, PassesOver, WholeLayer};
 
+use grid_size::Size;
 use layer::{Crossed, Layer, Row, Word};
 use lent_mesh::Counts;
 
@@ -32,10 +33,11 @@ pub trait CellStep: Copy {
 
     ghost ready: { Self → ℕ → ℕ → Type 0 };
 
-    // Ready for the cells of layer z.
-    fn at_layer(&self, n: usize, z: usize) -> Self
-        requires { (n ≤ 128) × made_for self.now n }
-        ensures { ready result n z };
+    // Ready for the cells of layer z. This and `end_layer` have no bodies here: what two or three of the four steps do
+    // there is wrong for the others, so that no law proves it of every step.
+    fn at_layer(&self, size: Size, z: usize) -> Self
+        requires { made_for self.now size.n }
+        ensures { ready result size.n z };
 
     fn cell(
         &self,
@@ -45,21 +47,24 @@ pub trait CellStep: Copy {
         indices: &mut [u32],
         counts: Counts,
     ) -> Counts
-        requires ready { ready self.now here.row.layer.n here.row.layer.z }
-        requires room { (room here.row.layer.n ≤ length work.old) × (counts.written + 15 < 2 ^ 32) }
+        requires ready { ready self.now here.row.layer.size.n here.row.layer.z }
+        requires room { (room here.row.layer.size.n ≤ length work.old) × (counts.written + 15 < 2 ^ 32) }
         ensures result_after { in_hand work.new vertices.new indices.new result
-            ≡ step here.entry.row.layer.n here.entry.row.layer.samples.now here.entry.row.layer.z here.entry.row.y here.entry.x (in_hand work.old vertices.old indices.old counts) }
+            ≡ step here.entry.row.layer.size.n here.entry.row.layer.samples.now here.entry.row.layer.z here.entry.row.y here.entry.x (in_hand work.old vertices.old indices.old counts) }
         ensures written_bound { result.written ≤ counts.written + 15 };
 
-    // What all cells of a layer come to, where that is known without a look at them.
+    // What all cells of a layer come to, where that is known without a look at them. Most steps do not know it.
     fn whole_layer(&self, layer: Layer, counts: Counts) -> Option<Counts>
-        requires { made_for self.now layer.n × (counts.written + 243840 < 2 ^ 32) }
-        ensures { IfSome result (WholeLayer step layer.entry.n layer.entry.samples.now layer.entry.z counts) };
+        requires { made_for self.now layer.size.n × (counts.written + 243840 < 2 ^ 32) }
+        ensures { IfSome result (WholeLayer step layer.entry.size.n layer.entry.samples.now layer.entry.z counts) }
+    {
+        None
+    }
 
     // After the last row of a layer; `row` is the cache row that is read next.
-    fn end_layer(&self, n: usize, row: usize, work: &mut [u32])
-        requires { (n ≤ 128) × (row ≤ 1) × (room n ≤ length work.old) }
-        ensures { (z : ℕ) → row ≡ row_parity n (z + 1) 0 → work.new ≡ ended n z work.old };
+    fn end_layer(&self, size: Size, row: usize, work: &mut [u32])
+        requires { (row ≤ 1) × (room size.n ≤ length work.old) }
+        ensures { (z : ℕ) → row ≡ row_parity size.n (z + 1) 0 → work.new ≡ ended size.n z work.old };
 
     ghost idle: { PassesOver step };
 }
@@ -74,13 +79,13 @@ fn word_cells<S: CellStep>(
     indices: &mut [u32],
     counts: Counts,
 ) -> Counts
-    requires ready { S.ready step.now word.row.layer.n word.row.layer.z }
-    requires room { (S.room word.row.layer.n ≤ length work.old) × (counts.written + 480 < 2 ^ 32) }
+    requires ready { S.ready step.now word.row.layer.size.n word.row.layer.z }
+    requires room { (S.room word.row.layer.size.n ≤ length work.old) × (counts.written + 480 < 2 ^ 32) }
     ensures result_after { in_hand work.new vertices.new indices.new result
-        ≡ times (cells_in word.entry.row.layer.n word.entry.k) (λ i t. S.step word.entry.row.layer.n word.entry.row.layer.samples.now word.entry.row.layer.z word.entry.row.y (32 * word.entry.k + i) t) (in_hand work.old vertices.old indices.old counts) }
+        ≡ times (cells_in word.entry.row.layer.size.n word.entry.k) (λ i t. S.step word.entry.row.layer.size.n word.entry.row.layer.samples.now word.entry.row.layer.z word.entry.row.y (32 * word.entry.k + i) t) (in_hand work.old vertices.old indices.old counts) }
     ensures written_bound { result.written ≤ counts.written + 480 }
 {
-    let mask = word.quad.active(word.row.layer.n, word.k);
+    let mask = word.quad.active(word.row.layer.size.n, word.k);
     let dense = u32::count_ones(mask) > 27;
     let mut made = counts.made;
     let mut written = counts.written;
@@ -96,11 +101,10 @@ fn word_cells<S: CellStep>(
 }
 
 // The words that hold the cells of a row.
-fn words_of(n: usize) -> usize
-    requires { (2 ≤ n) × (n ≤ 128) }
-    ensures { (n - 1 ≤ 32 * result) × (32 * result < n + 31) }
+fn words_of(size: Size) -> usize
+    ensures { (size.n - 1 ≤ 32 * result) × (32 * result < size.n + 31) }
 {
-    (n + 30) / 32
+    (size.n + 30) / 32
 }
 
 // A row of cells.
@@ -112,10 +116,10 @@ pub fn row_cells<S: CellStep>(
     indices: &mut [u32],
     counts: Counts,
 ) -> Counts
-    requires ready { S.ready step.now row.layer.n row.layer.z }
-    requires room { (S.room row.layer.n ≤ length work.old) × (counts.written + 1920 < 2 ^ 32) }
+    requires ready { S.ready step.now row.layer.size.n row.layer.z }
+    requires room { (S.room row.layer.size.n ≤ length work.old) × (counts.written + 1920 < 2 ^ 32) }
     ensures result_after { in_hand work.new vertices.new indices.new result
-        ≡ cells_of_row (S.step row.entry.layer.n row.entry.layer.samples.now) row.entry.layer.n row.entry.layer.z row.entry.y (row.entry.layer.n - 1) (in_hand work.old vertices.old indices.old counts) }
+        ≡ cells_of_row (S.step row.entry.layer.size.n row.entry.layer.samples.now) row.entry.layer.size.n row.entry.layer.z row.entry.y (row.entry.layer.size.n - 1) (in_hand work.old vertices.old indices.old counts) }
     ensures written_bound { result.written ≤ counts.written + 1920 }
 {
     if sign_cells::outside(row.layer.words, row.y) {
@@ -123,7 +127,7 @@ pub fn row_cells<S: CellStep>(
     }
     let class = joined_slots::class_of_row(row.y, row.layer.z);
     let mut reached = counts;
-    for k in 0..words_of(row.layer.n) {
+    for k in 0..words_of(row.layer.size) {
         reached = word_cells(step, row.word(k, class), work, vertices, indices, reached);
     }
     reached

@@ -109,13 +109,6 @@ unfoldable pub case_number : ℕ → ℕ → ℕ → ℕ → ℕ → ℕ
 case_number a b c d i =
     a / 2 ^ i % 4 + 4 * (b / 2 ^ i % 4 / 2) + 8 * (b / 2 ^ i % 4 % 2) + 16 * (c / 2 ^ i % 4) + 64 * (d / 2 ^ i % 4 / 2) + 128 * (d / 2 ^ i % 4 % 2)
 
-pub case_number-lt : (a b c d i : ℕ) → case_number a b c d i < 256
-unfolding case_number
-case_number-lt a b c d i = bound (a / 2 ^ i) (b / 2 ^ i) (c / 2 ^ i) (d / 2 ^ i)
-  where
-    bound : (a b c d : ℕ) → a % 4 + 4 * (b % 4 / 2) + 8 * (b % 4 % 2) + 16 * (c % 4) + 64 * (d % 4 / 2) + 128 * (d % 4 % 2) < 256
-    bound a b c d = omega arith
-
 halves : (x : ℕ) (p q : Bool) → x ≡ bit p + 2 * bit q → (x / 2 ≡ bit q) × (x % 2 ≡ bit p)
 halves x p q e = (rw e (high p q), rw e (low p q))
   where

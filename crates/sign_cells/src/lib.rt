@@ -68,16 +68,15 @@ impl Quad {
     }
 
     // The sign byte of cell i of the word.
-    pub fn case_of(self, i: u32) -> usize
+    pub fn case_of(self, i: u32) -> u8
         requires { i < 32 }
-        ensures case_from { CaseFrom self i result }
-        ensures upper_bound { result < 256 }
+        ensures { CaseFrom self i result }
     {
         let a = (self.a >> i) % 4;
         let b = (self.b >> i) % 4;
         let c = (self.c >> i) % 4;
         let d = (self.d >> i) % 4;
-        (a + 4 * (b / 2) + 8 * (b % 2) + 16 * c + 64 * (d / 2) + 128 * (d % 2)) as usize
+        (a + 4 * (b / 2) + 8 * (b % 2) + 16 * c + 64 * (d / 2) + 128 * (d % 2)) as u8
     }
 }
 

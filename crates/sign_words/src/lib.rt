@@ -61,6 +61,7 @@ fn part_word(samples: &[f32]) -> u32
 }
 
 // Word k of a row, where it is not whole; past the row's end the bits are 0.
+// `k < 4` stays a clause, here and above: k is the count of a loop, and a type would be made at each of its turns.
 fn end_word(row: &[f32], k: usize) -> u32
     requires { (k < 4) × (length row.now < 32 * k + 32) }
     ensures { result ≡ word_from row.now k }

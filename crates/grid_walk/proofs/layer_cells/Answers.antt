@@ -22,10 +22,10 @@ pub loop-y-preserved : goal.loop-y-preserved
 loop-y-preserved g c =
     let at = c.loop-y.invariant in
     let layer = c.args.layer in
-    let parity = parity-next (layer.z * (layer.n - 1) + c.loop-y.y) c.loop-y.row at.row-is in
+    let parity = parity-next (layer.z * (layer.size.n - 1) + c.loop-y.y) c.loop-y.row at.row-is in
     record {
       reached = reached-next _ _ _ 1920 c.loop-y.y _ _ at.reached c.row_cells-reached.ensures.result_after c.row_cells-reached.ensures.written_bound c.row_cells-reached.result.ordered;
-      row-is = parity ∙ ap (λ (k : ℕ). k % 2) (add_assoc (layer.z * (layer.n - 1)) c.loop-y.y 1);
+      row-is = parity ∙ ap (λ (k : ℕ). k % 2) (add_assoc (layer.z * (layer.size.n - 1)) c.loop-y.y 1);
       work-same = search rules;
       vertices-same = search rules;
       indices-same = search rules;
@@ -35,4 +35,4 @@ pub returns-clause-result_after : goal.returns-clause-result_after
 unfolding cells_of_layer
 returns-clause-result_after g c =
     let least = c.args.layer.of_grid.least in
-    reached-all _ _ _ c.loop-y.y (c.args.layer.n - 1) _ _ (omega arith) c.loop-y.invariant.reached
+    reached-all _ _ _ c.loop-y.y (c.args.layer.size.n - 1) _ _ (omega arith) c.loop-y.invariant.reached

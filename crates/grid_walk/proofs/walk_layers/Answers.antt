@@ -31,12 +31,12 @@ pub loop-z-preserved : goal.loop-z-preserved
 loop-z-preserved g c =
     let at = c.loop-z.invariant in
     let args = c.args in
-    let parity = parity-layer args.n c.loop-z.z c.loop-z.row at.row-is in
+    let parity = parity-layer args.size.n c.loop-z.z c.loop-z.row at.row-is in
     let step = g.S.CellStep.step in
     let ended = g.S.CellStep.ended in
     let here = in_hand c.loop-z.work c.loop-z.vertices c.loop-z.indices c.loop-z.reached in
-    let done = layer-done step ended args.n args.samples.now c.loop-z.z _ _ _ _ c.layer_cells-next.result here c.layer_cells-next.ensures.result_after (c.end_layer.ensures c.loop-z.z parity) in
-    let next = reached-next hand_count (λ z t. layer_done step ended args.n args.samples.now z t) _ 243840 c.loop-z.z here _ at.reached done c.layer_cells-next.ensures.written_bound c.layer_cells-next.result.ordered in
+    let done = layer-done step ended args.size.n args.samples.now c.loop-z.z _ _ _ _ c.layer_cells-next.result here c.layer_cells-next.ensures.result_after (c.end_layer.ensures c.loop-z.z parity) in
+    let next = reached-next hand_count (λ z t. layer_done step ended args.size.n args.samples.now z t) _ 243840 c.loop-z.z here _ at.reached done c.layer_cells-next.ensures.written_bound c.layer_cells-next.result.ordered in
     record {
       reached = next;
       row-is = parity;

@@ -15,11 +15,11 @@ use Rattle.grid_walk.proofs.walk_layers.Given as goal
 
 abbrev pub invariant-loop-z : goal.invariant-loop-z
 invariant-loop-z g l = record {
-  reached : Reached hand_count (λ z t. layer_done g.S.CellStep.step g.S.CellStep.ended l.n l.samples z t)
+  reached : Reached hand_count (λ z t. layer_done g.S.CellStep.step g.S.CellStep.ended l.size.n l.samples z t)
       (untouched l.initial.work l.initial.vertices l.initial.indices) (in_hand l.work l.vertices l.indices l.reached) l.z (243840 * l.z);
-  row-is : l.row ≡ row_parity l.n l.z 0;
-  low-are : LayerWords l.n l.samples l.z l.low;
-  grown-within : GrowsWithin (λ k. (times k (λ z t. layer_done g.S.CellStep.step g.S.CellStep.ended l.n l.samples z t)
+  row-is : l.row ≡ row_parity l.size.n l.z 0;
+  low-are : LayerWords l.size.n l.samples l.z l.low;
+  grown-within : GrowsWithin (λ k. (times k (λ z t. layer_done g.S.CellStep.step g.S.CellStep.ended l.size.n l.samples z t)
       (untouched l.initial.work l.initial.vertices l.initial.indices)).written) l.z l.grown;
   work-same : length l.work ≡ length l.initial.work;
   vertices-same : length l.vertices ≡ length l.initial.vertices;

@@ -20,7 +20,7 @@ top-after i j a = none-set j ∙ sym (ne_eqb (i / 4) 0 (λ e. omega (arith, a, e
 pub returns-then-first-eq0-clause-layer_counted : goal.returns-then-first-eq0-clause-layer_counted
 returns-then-first-eq0-clause-layer_counted c samples z lower upper above =
     let masks = c.args.masks.now in
-    layer-begun (inside_of masks.n samples) masks.n z _ _ _ masks.least masks.most
+    layer-begun (inside_of masks.size.n samples) masks.size.n z _ _ _ masks.size.least masks.size.most
     (c.tally_words-begun.ensures.words_counted samples z lower upper above (λ i j a b l. top-first i j b l))
     (c.tally_words.ensures.words_counted samples z lower upper above (λ i j a b l. top-after i j a))
 
@@ -28,5 +28,5 @@ pub returns-else-first-eq0-clause-layer_counted : goal.returns-else-first-eq0-cl
 returns-else-first-eq0-clause-layer_counted c samples z lower upper above =
     let masks = c.args.masks.now in
     let rows = c.rows_outside-first.ensures in
-    layer-from (inside_of masks.n samples) masks.n z c.rows_outside-first.result _ _ masks.most rows.1 (λ x y h l. rows.0 samples z lower upper x y h l)
+    layer-from (inside_of masks.size.n samples) masks.size.n z c.rows_outside-first.result _ _ masks.size.most rows.1 (λ x y h l. rows.0 samples z lower upper x y h l)
     (c.tally_words-else-first-eq0.ensures.words_counted samples z lower upper above (λ i j a b l. top-after i j (omega (arith, c.if-first-eq0.false, a))))

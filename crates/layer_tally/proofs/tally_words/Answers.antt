@@ -12,7 +12,7 @@ pub loop-i-init : goal.loop-i-init
 loop-i-init c =
     let args = c.args in
     record {
-      counted = words-none args.layers.low.now args.layers.high.now args.masks.now.n args.from args.top _;
+      counted = words-none args.layers.low.now args.layers.high.now args.masks.now.size.n args.from args.top _;
       grown = omega arith;
       ordered = args.counts.ordered;
     }
@@ -34,8 +34,8 @@ loop-i-preserved c =
     let few = triangles.1 in
     let here : Count = record { made = c.loop-i.made; written = c.loop-i.written } in
     let next =
-    words-next args.layers.low.now args.layers.high.now masks.n i args.top corners masks.masks masks.firsts here
-    masks.least masks.most (omega (arith, end, taken)) masks.masks_are masks.firsts_are c.corners_at-corners.ensures
+    words-next args.layers.low.now args.layers.high.now masks.size.n i args.top corners masks.masks masks.firsts here
+    masks.size.least masks.size.most (omega (arith, end, taken)) masks.masks_are masks.firsts_are c.corners_at-corners.ensures
     args.from (record { made = args.counts.made; written = args.counts.written }) begun inv.counted in
     let more = new-most corners (get_or masks.masks i 0) (get_or masks.firsts i 0) args.top in
     record {

@@ -27,8 +27,8 @@ shape_of-work-then-vertices-floats c = c.work-1.given
 pub returns-then-vertices-floats : goal.returns-then-vertices-floats
 returns-then-vertices-floats c =
     let args = c.args in
-    let s = surface_of args.n (word_of args.numbering) args.samples.now in
-    vertices-left args.n (word_of args.numbering) args.samples.now args.work.now args.vertices.now args.indices.now s _ _ c.counted.result _
+    let s = surface_of args.size.n (word_of args.numbering) args.samples.now in
+    vertices-left args.size.n (word_of args.numbering) args.samples.now args.work.now args.vertices.now args.indices.now s _ _ c.counted.result _
     c.count-reach.ensures.made_value.0 c.count-reach.ensures.made_value.1 c.counted.ensures c.count-reach.ensures.work_after c.if-vertices-floats.true
 
 pub overflow_cast-counts : goal.overflow_cast-counts
@@ -40,8 +40,8 @@ shape_of-work-then-indices-counts c = c.work-1.given
 pub returns-then-indices-counts : goal.returns-then-indices-counts
 returns-then-indices-counts c =
     let args = c.args in
-    let s = surface_of args.n (word_of args.numbering) args.samples.now in
-    indices-left args.n (word_of args.numbering) args.samples.now args.work.now args.vertices.now args.indices.now s _ _ c.counted-then-indices-counts.result _
+    let s = surface_of args.size.n (word_of args.numbering) args.samples.now in
+    indices-left args.size.n (word_of args.numbering) args.samples.now args.work.now args.vertices.now args.indices.now s _ _ c.counted-then-indices-counts.result _
     c.count-reach.ensures.made_value.0 c.count-reach.ensures.made_value.1 c.counted-then-indices-counts.ensures c.count-reach.ensures.work_after c.if-vertices-floats.false c.if-indices-counts.true
 
 pub shape_of-work-then-counts-eq0 : goal.shape_of-work-then-counts-eq0
@@ -51,15 +51,15 @@ shape_of-work-then-counts-eq0 c = c.work-1.given
 pub returns-then-counts-eq0 : goal.returns-then-counts-eq0
 returns-then-counts-eq0 c =
     let args = c.args in
-    let s = surface_of args.n (word_of args.numbering) args.samples.now in
+    let s = surface_of args.size.n (word_of args.numbering) args.samples.now in
     let none = c.if-counts-eq0.true in
     let fewer = c.count-reach.result.counts.ordered in
     let made = c.count-reach.ensures.made_value.0 in
     let written = c.count-reach.ensures.made_value.1 in
     let no-vertices : length s.made ≡ 0 = omega (arith, none, fewer, made) in
     let no-indices : length s.indices ≡ 0 = omega (arith, none, written) in
-    done-left args.n (word_of args.numbering) args.samples.now args.work.now args.vertices.now args.indices.now s _ _ c.counted-then-counts-eq0.result _ args.vertices.now args.indices.now
-    made written c.counted-then-counts-eq0.ensures c.count-reach.ensures.work_after (over-no-floats args.n args.samples.now s args.vertices.now no-vertices) (over_none s.indices args.indices.now no-indices)
+    done-left args.size.n (word_of args.numbering) args.samples.now args.work.now args.vertices.now args.indices.now s _ _ c.counted-then-counts-eq0.result _ args.vertices.now args.indices.now
+    made written c.counted-then-counts-eq0.ensures c.count-reach.ensures.work_after (over-no-floats args.size.n args.samples.now s args.vertices.now no-vertices) (over_none s.indices args.indices.now no-indices)
     (omega (arith, no-vertices)) (omega (arith, no-indices))
 
 pub fill-requires : goal.fill-requires
@@ -73,7 +73,7 @@ fill-requires c =
     record {
       accepted = (
         record { least = pre.least; most = pre.most; samples-whole = pre.samples-whole; work-room = omega (arith, pre.work-room, same) },
-        cleared-zeros (work_room c.args.n) c.args.work.now _ c.count-reach.ensures.work_after,
+        cleared-zeros (work_room c.args.size.n) c.args.work.now _ c.count-reach.ensures.work_after,
       );
       grows_within = c.count-reach.ensures.grows_within;
       samples_in_bounds = (omega (arith, made, floats), omega (arith, written, words));
@@ -91,11 +91,11 @@ shape_of-indices c = c.indices-1.given
 pub returns : goal.returns
 returns c =
     let args = c.args in
-    let s = surface_of args.n (word_of args.numbering) args.samples.now in
+    let s = surface_of args.size.n (word_of args.numbering) args.samples.now in
     let made = c.count-reach.ensures.made_value.0 in
     let written = c.count-reach.ensures.made_value.1 in
     let floats = c.if-vertices-floats.false in
     let words = c.if-indices-counts.false in
-    done-left args.n (word_of args.numbering) args.samples.now args.work.now args.vertices.now args.indices.now s _ _ c.counted-2.result _ _ _
-    made written c.counted-2.ensures (cleared-again (work_room args.n) args.work.now _ _ c.count-reach.ensures.work_after c.fill.ensures.work_after) c.fill.ensures.vertices_after c.fill.ensures.indices_after
+    done-left args.size.n (word_of args.numbering) args.samples.now args.work.now args.vertices.now args.indices.now s _ _ c.counted-2.result _ _ _
+    made written c.counted-2.ensures (cleared-again (work_room args.size.n) args.work.now _ _ c.count-reach.ensures.work_after c.fill.ensures.work_after) c.fill.ensures.vertices_after c.fill.ensures.indices_after
     (omega (arith, made, floats)) (omega (arith, written, words))

@@ -9,8 +9,8 @@ use Rattle.row_walk.proofs.row_cells.Given as goal
 
 abbrev pub invariant-loop-k : goal.invariant-loop-k
 invariant-loop-k g l = record {
-  reached : Reached hand_count (λ x t. g.S.CellStep.step l.row.layer.n l.row.layer.samples.now l.row.layer.z l.row.y x t)
-      (in_hand l.initial.work l.initial.vertices l.initial.indices l.initial.reached) (in_hand l.work l.vertices l.indices l.reached) (min (32 * l.k) (l.row.layer.n - 1)) (480 * l.k);
+  reached : Reached hand_count (λ x t. g.S.CellStep.step l.row.layer.size.n l.row.layer.samples.now l.row.layer.z l.row.y x t)
+      (in_hand l.initial.work l.initial.vertices l.initial.indices l.initial.reached) (in_hand l.work l.vertices l.indices l.reached) (min (32 * l.k) (l.row.layer.size.n - 1)) (480 * l.k);
   work-same : length l.work ≡ length l.initial.work;
   vertices-same : length l.vertices ≡ length l.initial.vertices;
   indices-same : length l.indices ≡ length l.initial.indices;

@@ -19,7 +19,7 @@ pub cell-here-requires : goal.cell-here-requires
 cell-here-requires g c =
     let word = c.args.word in
     let some : 0 < c.loop-rest.rest = omega arith in
-    (walked-found g.S.CellStep.step word.row.layer.n word.row.layer.samples.now word.row.layer.z word.row.y g.met.S.CellStep.idle word.k _ _ _ _ c.loop-rest.invariant.walked (c.active-mask.ensures _ _ _ word.quad_of) some).0
+    (walked-found g.S.CellStep.step word.row.layer.size.n word.row.layer.samples.now word.row.layer.z word.row.y g.met.S.CellStep.idle word.k _ _ _ _ c.loop-rest.invariant.walked (c.active-mask.ensures _ _ _ word.quad_of) some).0
 
 pub loop-rest-preserved : goal.loop-rest-preserved
 loop-rest-preserved g c =
@@ -27,7 +27,7 @@ loop-rest-preserved g c =
     let some : 0 < c.loop-rest.rest = omega arith in
     let done = rw (c.cell-here.ensures.0, c.cell-here.ensures.1) at c.cell-next.ensures.result_after in
     record {
-      walked = walked_next g.S.CellStep.step word.row.layer.n word.row.layer.samples.now word.row.layer.z word.row.y g.met.S.CellStep.idle word.k _ _ _ _ c.loop-rest.invariant.walked (c.active-mask.ensures _ _ _ word.quad_of) _ some done c.cell-next.ensures.written_bound c.cell-next.result.ordered;
+      walked = walked_next g.S.CellStep.step word.row.layer.size.n word.row.layer.samples.now word.row.layer.z word.row.y g.met.S.CellStep.idle word.k _ _ _ _ c.loop-rest.invariant.walked (c.active-mask.ensures _ _ _ word.quad_of) _ some done c.cell-next.ensures.written_bound c.cell-next.result.ordered;
       work-same = search rules;
       vertices-same = search rules;
       indices-same = search rules;
@@ -36,4 +36,4 @@ loop-rest-preserved g c =
 pub returns-clause-result_after : goal.returns-clause-result_after
 returns-clause-result_after g c =
     let word = c.args.word in
-    walked-last g.S.CellStep.step word.row.layer.n word.row.layer.samples.now word.row.layer.z word.row.y g.met.S.CellStep.idle word.k _ _ _ _ c.loop-rest.invariant.walked (c.active-mask.ensures _ _ _ word.quad_of) (omega arith)
+    walked-last g.S.CellStep.step word.row.layer.size.n word.row.layer.samples.now word.row.layer.z word.row.y g.met.S.CellStep.idle word.k _ _ _ _ c.loop-rest.invariant.walked (c.active-mask.ensures _ _ _ word.quad_of) (omega arith)

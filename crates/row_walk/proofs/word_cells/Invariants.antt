@@ -6,7 +6,7 @@ use Rattle.row_walk.proofs.word_cells.Given as goal
 
 abbrev pub invariant-loop-rest : goal.invariant-loop-rest
 invariant-loop-rest g l = record {
-  walked : Walked g.S.CellStep.step l.word.row.layer.n l.word.row.layer.samples.now l.word.row.layer.z l.word.row.y l.word.k
+  walked : Walked g.S.CellStep.step l.word.row.layer.size.n l.word.row.layer.samples.now l.word.row.layer.z l.word.row.y l.word.k
       (record { memory = l.initial.work; vertices = l.initial.vertices; indices = l.initial.indices; made = l.initial.made; written = l.initial.written })
       (record { memory = l.work; vertices = l.vertices; indices = l.indices; made = l.made; written = l.written }) l.mask l.rest;
   work-same : length l.work ≡ length l.initial.work;

@@ -11,4 +11,4 @@ returns-clause-result_after c =
     let here = c.args.here in
     let layer = here.row.layer in
     ap (beside (in_hand c.args.work.now c.args.vertices.now c.args.indices.now c.args.counts))
-    (crate-step layer.n (inside_of layer.n layer.samples.now) layer.z here.row.y here.x _ _ _ _ _ here.row.parity_is.0 here.row.parity_is.1 here.case_is.0 c.held_cell.ensures.result_after)
+    (crate-step layer.size.n (inside_of layer.size.n layer.samples.now) layer.z here.row.y here.x _ _ _ _ _ here.row.parity_is.0 here.row.parity_is.1 here.case_is c.held_cell.ensures.result_after)

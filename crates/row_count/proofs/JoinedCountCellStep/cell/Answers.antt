@@ -10,6 +10,6 @@ pub returns-clause-result_after : goal.returns-clause-result_after
 returns-clause-result_after c =
     let here = c.args.here in
     let layer = here.row.layer in
-    let g = inside_of layer.n layer.samples.now in
+    let g = inside_of layer.size.n layer.samples.now in
     ap (beside (in_hand c.args.work.now c.args.vertices.now c.args.indices.now c.args.counts))
-    (joined_step layer.n g layer.z here.row.y here.x c.args.work.now c.args.counts c.joined_counts.result (c.joined_counts.ensures.result_value g here.x here.row.y layer.z here.case_is.0 here.class_is))
+    (joined_step layer.size.n g layer.z here.row.y here.x c.args.work.now c.args.counts c.joined_counts.result (c.joined_counts.ensures.result_value g here.x here.row.y layer.z here.case_is here.class_is))
