@@ -28,6 +28,7 @@ pub struct NewWords {
 impl NewWords {
     // A table of 256 cases for each class.
     // `class < 8` stays a clause: a class is worked out for one cell and serves as an index alone.
+    #[inline(always)]
     pub fn word(&self, case: u8, class: usize) -> u64
         requires { class < 8 }
         ensures { result ≡ get_or new_words (256 * class + case) 0 }
