@@ -5,28 +5,25 @@ use native.Mathlib.Omega.{arith}
 use Rattle.passes.proofs.Passes.{filled-pass}
 use Rattle.passes.proofs.fill.Goals as goal
 
-pub work_room-room-requires : goal.work_room-room-requires
-work_room-room-requires c = c.requires.accepted.0.most
-
 pub walk-requires : goal.walk-requires
 walk-requires c =
     let pre = c.requires.accepted.0 in
     record {
-      le_n = (pre.least, pre.most, le_of_eq (sym pre.samples-whole), pre.work-room);
+      rooms = (le_of_eq (sym pre.samples-whole), pre.work-room);
       grows_within = (c.requires.grows_within, c.requires.accepted.1);
     }
 
 pub clear-requires : goal.clear-requires
 clear-requires c =
     let room = c.requires.accepted.0.work-room in
-    let is = c.work_room-room.ensures in
+    let is = c.work_room.ensures in
     let same = c.work-1.given in
     omega arith
 
 pub returns : goal.returns
 returns c =
     let pass =
-    filled-pass _ _ _ _ _ _ _ _ _ _ c.work_room-room.ensures c.requires.accepted.0.work-room c.work-1.given c.requires.accepted.1 c.requires.grows_within c.requires.samples_in_bounds.0 c.requires.samples_in_bounds.1 c.walk.ensures.result_after c.clear.ensures in
+    filled-pass _ _ _ _ _ _ _ _ _ _ c.work_room.ensures c.requires.accepted.0.work-room c.work-1.given c.requires.accepted.1 c.requires.grows_within c.requires.samples_in_bounds.0 c.requires.samples_in_bounds.1 c.walk.ensures.result_after c.clear.ensures in
     record {
       work_after = pass.0;
       vertices_after = pass.1;
