@@ -22,14 +22,25 @@ pub fn count_grid(numbering: Numbering, samples: &[f32], size: Size, work: &mut 
     ensures grows_within { GrowsWithin (λ k. (count_steps (word_of numbering) size.n (inside_of size.n samples.now) k (record { work = work.old; made = 0; written = 0 })).written) size.n result.span }
     ensures written_bound { result.counts.written ≤ 31211520 }
 {
-    let whole = Span { first: 0, last: size.n };
+    let whole = Span {
+        first: 0,
+        last: size.n,
+    };
     let mut vertices: [f32; 0] = [];
     let mut indices: [u32; 0] = [];
     match numbering {
         Numbering::Crate => {
             let names = held_bits::name_words();
             let step = CrateCount { names: &names };
-            grid_walk::walk_layers(&step, samples, size, whole, work, &mut vertices, &mut indices)
+            grid_walk::walk_layers(
+                &step,
+                samples,
+                size,
+                whole,
+                work,
+                &mut vertices,
+                &mut indices,
+            )
         }
         Numbering::Joined => {
             let news = packed_tables::new_words();
@@ -38,7 +49,15 @@ pub fn count_grid(numbering: Numbering, samples: &[f32], size: Size, work: &mut 
                 news: &news,
                 masks: &masks,
             };
-            grid_walk::walk_layers(&step, samples, size, whole, work, &mut vertices, &mut indices)
+            grid_walk::walk_layers(
+                &step,
+                samples,
+                size,
+                whole,
+                work,
+                &mut vertices,
+                &mut indices,
+            )
         }
     }
 }

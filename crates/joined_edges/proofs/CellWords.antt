@@ -66,19 +66,18 @@ counts-grown class s row fresh made written made-now written-now w h a b =
     (omega arith, omega arith)
 
 -- as the code reads them
-words : (class s i fresh : ℕ) (rows news : List ℕ) → class < 8 → s < 256 → rows ≡ row_words → news ≡ new_words → i ≡ s
-    → fresh ≡ get_or news (256 * class + s) 0 → Words class s (get_or rows i 0) fresh
-words class s i fresh rows news hc hs er en ei ef =
-    let known : fresh ≡ get_or new_words (256 * class + s) 0 = ef ∙ ap (λ (l : List ℕ). get_or l (256 * class + s) 0) en in
+words : (class s i fresh : ℕ) (rows : List ℕ) → class < 8 → s < 256 → rows ≡ row_words → i ≡ s
+    → fresh ≡ get_or new_words (256 * class + s) 0 → Words class s (get_or rows i 0) fresh
+words class s i fresh rows hc hs er ei known =
     words-hold class s (get_or rows i 0) fresh hs
     (ap₂ (λ (l : List ℕ) (k : ℕ). in_threes (get_or l k 0)) er ei ∙ row_word s hs)
     (ap one_by_one known ∙ new_word class s hc hs)
     (ap indices_of known ∙ new-word-row class s hc hs)
 
 -- where the row's own word is not read
-pub new-words : (class s fresh : ℕ) (news : List ℕ) → s < 256 → (news ≡ new_words) × (class < 8) → fresh ≡ get_or news (256 * class + s) 0
+pub new-words : (class s fresh : ℕ) → s < 256 → class < 8 → fresh ≡ get_or new_words (256 * class + s) 0
     → Words class s (get_or row_words s 0) fresh
-new-words class s fresh news hs known e = words class s s fresh row_words news known.1 hs refl known.0 refl e
+new-words class s fresh hs hc e = words class s s fresh row_words hc hs refl refl e
 
 -- ---- of a cell
 
@@ -108,10 +107,10 @@ class-owned x y z class e = class-of-bits class (eqb x 0) (eqb y 0) (eqb z 0) (o
 pub case-lt : (g : Inside) (x y z s : ℕ) → s ≡ signs g x y z → s < 256
 case-lt g x y z s e = subst (λ (k : ℕ). k < 256) (sym e) (signs-lt g x y z)
 
-pub cell-words : (g : Inside) (x y z class s i : ℕ) (rows news : List ℕ) → rows ≡ row_words → news ≡ new_words → i ≡ s → s ≡ signs g x y z
-    → class ≡ class_of x y z → Words class s (get_or rows i 0) (get_or news (256 * class + s) 0)
-cell-words g x y z class s i rows news er en ei es ec =
-    words class s i (get_or news (256 * class + s) 0) rows news (class-lt x y z class ec) (case-lt g x y z s es) er en ei refl
+pub cell-words : (g : Inside) (x y z class s i : ℕ) (rows : List ℕ) → rows ≡ row_words → i ≡ s → s ≡ signs g x y z
+    → class ≡ class_of x y z → Words class s (get_or rows i 0) (get_or new_words (256 * class + s) 0)
+cell-words g x y z class s i rows er ei es ec =
+    words class s i (get_or new_words (256 * class + s) 0) rows (class-lt x y z class ec) (case-lt g x y z s es) er ei refl
 
 module _ (g : Inside) (x y z class s row fresh : ℕ) (es : s ≡ signs g x y z) (ec : class ≡ class_of x y z) (w : Words class s row fresh) where
   row-of-cell : in_threes row ≡ cell_edges g x y z

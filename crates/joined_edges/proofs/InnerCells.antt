@@ -1,5 +1,5 @@
 -- A cell of class 0: what its marks make is what its list of new edges makes, once the edges are counted.
-use mathlib.Core.Path.{◌≡◌, sym, ap, ap₂, ◌∙◌, subst}
+use mathlib.Core.Path.{◌≡◌, sym, ap, ◌∙◌, subst}
 use mathlib.Core.List.{List}
 use Prim.Native.Nat.{ℕ, ◌+◌, ◌*◌, ◌/◌, ◌%◌, ◌^◌, ◌<◌}
 use lib.ListN.{length, get_or}
@@ -22,9 +22,8 @@ use Rattle.inner_cells.proofs.RankedEdges.{marked-made}
 use Rattle.joined_edges.proofs.CellWords.{Words}
 
 -- as the code reads the word
-pub inner-marks : (class s fresh : ℕ) (news : List ℕ) → class ≡ 0 → s < 256 → news ≡ new_words → fresh ≡ get_or news (256 * class + s) 0 → Marks fresh
-inner-marks class s fresh news ec hs en ef =
-    subst Marks (sym (ef ∙ ap₂ (λ (l : List ℕ) (k : ℕ). get_or l (256 * k + s) 0) en ec)) (marks s hs)
+pub inner-marks : (class s fresh : ℕ) → class ≡ 0 → s < 256 → fresh ≡ get_or new_words (256 * class + s) 0 → Marks fresh
+inner-marks class s fresh ec hs ef = subst Marks (sym (ef ∙ ap (λ (k : ℕ). get_or new_words (256 * k + s) 0) ec)) (marks s hs)
 
 stores-exchange : (n : ℕ) (samples : List Float) (v u : Visit) (i j : ℕ) (b : List Float) → (i ≡ j → ⊥)
     → store_at n samples v i (store_at n samples u j b) ≡ store_at n samples u j (store_at n samples v i b)

@@ -10,7 +10,7 @@ ghost use Rattle.walk.specs.Walk.{Inside, signs};
 ghost use Rattle.walk.specs.Ownership.{new_edges};
 ghost use Rattle.walk_models.specs.Owned.{edge_visit, slot, make_edge, owned_cell, count_cell};
 ghost use Rattle.packed_tables.specs.Unpacked.{unpacked};
-ghost use Rattle.packed_tables.specs.Packed.{owned_in, row_words, new_words};
+ghost use Rattle.packed_tables.specs.Packed.{owned_in, row_words};
 ghost use Rattle.lent_mesh.specs.Grid.{inside_of};
 ghost use Rattle.lent_mesh.specs.Stored.{store_at, in_hand};
 ghost use Rattle.joined_slots.specs.OneCell.{Slots, each, class_of, count_of};
@@ -19,6 +19,7 @@ ghost use Rattle.inner_cells.specs.Ranked.{hand};
 use joined_slots::slot_cell::SlotCell;
 use lent_mesh::Counts;
 use lent_mesh::cell::Cell;
+use packed_tables::NewWords;
 use packed_tables::edges::{PackedEdges, PackedTriangles};
 
 // The next numbers go to the edges of the list, each with its vertex.
@@ -52,20 +53,10 @@ fn number_of(here: SlotCell, edge: usize, work: &[u32]) -> u32
     work[here.place(edge)]
 }
 
-// A table of 256 cases for each class.
-// `class < 8` stays a clause here and below: a class is worked out for one cell and serves as an index alone.
-fn new_word(news: &[u64; 2048], case: u8, class: usize) -> u64
-    requires { class < 8 }
-    ensures { result ≡ get_or news.now (256 * class + case) 0 }
-{
-    news[256 * class + usize::from(case)]
-}
-
 // The new edges of a cell are made, by its word in `news`. An inner cell has marks in it; where the cells
 // around are active too, the compiler cannot know which edges are crossed, and the list is faster.
-// What `news` holds stays a clause: the steps that lend it have it in their types, and a type of its own would be a third.
 fn make_new(
-    news: &[u64; 2048],
+    news: &NewWords,
     here: SlotCell,
     case: u8,
     class: usize,
@@ -74,13 +65,13 @@ fn make_new(
     vertices: &mut [f32],
     made: u32,
 ) -> u32
-    requires news_value { (news.now ≡ new_words) × (class < 8) }
+    requires class_bound { class < 8 }
     requires n_in_bounds { (8 * (here.cell.size.n * here.cell.size.n) ≤ length work.old) × (made + 15 < 2 ^ 32) }
     ensures by_index { let cell = here.entry.cell in (l : List ℕ) (written : ℕ) → hand work.new vertices.new l result written
         ≡ each (make_edge (store_at cell.size.n cell.samples.now) cell.size.n cell.z cell.y cell.x) (new_edges (owned_in class) (row_edges case)) (hand work.old vertices.old l made written) }
     ensures made_value { result ≡ made + length (new_edges (owned_in class) (row_edges case)) }
 {
-    let word = new_word(news, case, class);
+    let word = news.word(case, class);
     if (class == 0) & !dense {
         inner_cells::make_inner(here, word, work, vertices, made)
     } else {
@@ -97,7 +88,7 @@ fn make_new(
 // are made.
 pub fn joined_cell(
     rows: &[u64; 256],
-    news: &[u64; 2048],
+    news: &NewWords,
     cell: Cell,
     slots: &[usize; 12],
     case: u8,
@@ -108,7 +99,7 @@ pub fn joined_cell(
     indices: &mut [u32],
     counts: Counts,
 ) -> Counts
-    requires rows_value { (rows.now ≡ row_words) × (news.now ≡ new_words) × Slots cell.size.n cell.z slots.now }
+    requires rows_value { (rows.now ≡ row_words) × Slots cell.size.n cell.z slots.now }
     requires case_value { (case ≡ signs (inside_of cell.size.n cell.samples.now) cell.x cell.y cell.z) × (class ≡ class_of cell.x cell.y cell.z) }
     requires n_in_bounds { (8 * (cell.size.n * cell.size.n) ≤ length work.old) × (counts.written + 15 < 2 ^ 32) }
     ensures result_after { let at = cell.entry in let inside = inside_of at.size.n at.samples.now in in_hand work.new vertices.new indices.new result
@@ -132,13 +123,13 @@ pub fn joined_cell(
 
 // What one cell adds to the counts, from its word in `news` alone: the number of its row's triangles
 // stands there too, in the four bits below the highest.
-pub fn joined_counts(news: &[u64; 2048], case: u8, class: usize, counts: Counts) -> Counts
-    requires news_value { (news.now ≡ new_words) × (class < 8) }
+pub fn joined_counts(news: &NewWords, case: u8, class: usize, counts: Counts) -> Counts
+    requires class_bound { class < 8 }
     requires written_fits { counts.written + 15 < 2 ^ 32 }
     ensures result_value { (g : Inside) (x y z : ℕ) → case ≡ signs g x y z → class ≡ class_of x y z → count_of result ≡ count_cell g z y x (count_of counts) }
     ensures written_bound { result.written ≤ counts.written + 15 }
 {
-    let fresh = new_word(news, case, class);
+    let fresh = news.word(case, class);
     Counts {
         made: counts.made + ((fresh >> 60) as u32),
         written: counts.written + 3 * (((fresh >> 56) % 16) as u32),

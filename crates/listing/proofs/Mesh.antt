@@ -4,6 +4,7 @@ use mathlib.Core.Path.{◌≡◌, refl, sym, ap, ◌∙◌, subst}
 use mathlib.Core.Logic.{⊎_elim}
 use mathlib.Core.List.{List, ◌++◌, map}
 use Prim.Native.Nat.{ℕ, ◌+◌, ◌*◌, ◌/◌, ◌≤◌, ◌<◌}
+use native.Mathlib.Nat.{mul-le-mul}
 use native.Mathlib.Omega.{arith}
 use lib.ListN.{length, take, drop, replicate, length-map}
 use lib.Seq.{take-append_seam}
@@ -17,7 +18,6 @@ use Rattle.sample_check.specs.Samples.{lowest_bad}
 use Rattle.lent_mesh.specs.Grid.{position_at, floats_of}
 use Rattle.lent_mesh.proofs.Floats.{floats_of-length}
 use Rattle.outcome.specs.Outcome.{Outcome, work_room, Surface, surface_of, over, refused, meshed, outcome}
-use Rattle.passes.proofs.Sizes.{square_le}
 use Rattle.marching_cubes.proofs.ByCause.{sample-bad, accepted, room-enough}
 use Rattle.listing_runs.specs.Runs.{lines_of, vertex_line_at, face_line_at}
 use Rattle.listing_runs.proofs.Lines.{vertex_lines-front, face_lines-front}
@@ -108,7 +108,7 @@ module _ (n : ℕ) (numbering : Numbering) (samples : List Float) (least : 2 ≤
     (word : ℕ) (is : word ≡ word_of numbering)
     (o : Outcome) (e : o ≡ outcome n word samples (replicate 434 0) (replicate 11340 (of_bits binary32 0)) (replicate 3780 0)) where
   work-enough : work_room n ≤ 434
-  work-enough = let square = square_le n 7 most in omega arith
+  work-enough = let square = mul-le-mul most most in omega arith
 
   known : o ≡ outcome n (word_of numbering) samples (replicate 434 0) (replicate 11340 (of_bits binary32 0)) (replicate 3780 0)
   known = rw (← is) e

@@ -1,11 +1,15 @@
 -- The outcome by cause, each from the tests that select it. The proofs of `extract` and `meshed` cite these and leave the definition shut.
 use mathlib.Core.Path.{◌≡◌, sym, ◌∙◌}
+use mathlib.Core.Bool.{true, false}
+use mathlib.Core.Logic.{⊎_elim}
 use mathlib.Core.List.{List, map}
 use Prim.Native.Nat.{ℕ, ◌+◌, ◌*◌, ◌≤◌, ◌<◌}
 use native.Mathlib.Omega.{arith}
+use lib.Dec.{ltb}
 use lib.ListN.{length, replicate}
 use lib.Ieee.{Float}
-use borrow.Author.Tests.{lt-ltb, le-ltb, eq-eqb, ne_eqb}
+use borrow.Author.Tests.{lt-ltb, le-ltb, eq-eqb, ne_eqb, ltb-true, ltb-false}
+use Rattle.walk.proofs.Bools.{bool_cases}
 use Rattle.lent_mesh.specs.Grid.{position_at, floats_of}
 use Rattle.sample_check.specs.Samples.{lowest_bad}
 use Rattle.outcome.specs.Outcome.{Outcome, left, work_room, Surface, surface_of, over, refused, meshed, filled, outcome}
@@ -25,6 +29,12 @@ module _ (n numbering : ℕ) (samples : List Float) (work : List ℕ) (vertices 
   pub size-over : 2 ≤ n → 128 < n → refuses 1 0
   unfolding outcome
   size-over l h = rw (le-ltb n 2 l, lt-ltb 128 n h)
+
+  pub size-outside : (2 ≤ n → n ≤ 128 → ⊥) → refuses 1 0
+  size-outside none =
+      ⊎_elim (λ (b : ltb n 2 ≡ true). size-under (ltb-true n 2 b))
+      (λ (b : ltb n 2 ≡ false). let least = ltb-false n 2 b in let over = none least in size-over least (omega (arith, over)))
+      (bool_cases (ltb n 2))
 
   module _ (least : 2 ≤ n) (most : n ≤ 128) where
     pub numbering-over : 1 < numbering → refuses 2 0

@@ -53,7 +53,9 @@ fn meshed(
     if counts.written == 0 {
         return counted(0, counts);
     }
-    passes::fill(numbering, samples, size, reach.span, work, vertices, indices);
+    passes::fill(
+        numbering, samples, size, reach.span, work, vertices, indices,
+    );
     counted(0, counts)
 }
 

@@ -8,7 +8,7 @@ mod news;
 mod regulars;
 mod rows;
 
-ghost use Rattle.std.specs.Prelude.{◌≡◌};
+ghost use Rattle.std.specs.Prelude.{◌≡◌, ◌+◌, ◌*◌, ◌<◌, get_or};
 ghost use Rattle.packed_tables.specs.Packed.{row_words, new_words};
 ghost use Rattle.packed_tables.specs.Regular.{regular_words};
 
@@ -18,10 +18,29 @@ pub fn row_words() -> [u64; 256]
     rows::ROW_WORDS
 }
 
-pub fn new_words() -> [u64; 2048]
-    ensures { result ≡ new_words }
-{
-    news::NEW_WORDS
+// The new edges of a cell in a word, by its class and its sign byte.
+#[derive(Drop)]
+pub struct NewWords {
+    pub words: [u64; 2048],
+    pub ghost words_are: { words ≡ new_words },
+}
+
+impl NewWords {
+    // A table of 256 cases for each class.
+    // `class < 8` stays a clause: a class is worked out for one cell and serves as an index alone.
+    #[inline(always)]
+    pub fn word(&self, case: u8, class: usize) -> u64
+        requires { class < 8 }
+        ensures { result ≡ get_or new_words (256 * class + case) 0 }
+    {
+        self.words[256 * class + usize::from(case)]
+    }
+}
+
+pub fn new_words() -> NewWords {
+    NewWords {
+        words: news::NEW_WORDS,
+    }
 }
 
 pub fn regular_words() -> [u64; 256]

@@ -1,4 +1,3 @@
-pub mod Sizes
 pub mod Cleared
 mod Left
 mod Passes

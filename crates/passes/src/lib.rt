@@ -74,6 +74,14 @@ pub fn fill(
     ensures vertices_after { vertices.new ≡ over (floats_of (map (position_at size.n samples.now) (surface_of size.n (word_of numbering) samples.now).made)) vertices.old }
     ensures indices_after { indices.new ≡ over (surface_of size.n (word_of numbering) samples.now).indices indices.old }
 {
-    grid_walk::walk(numbering.word(), samples, size, span, work, vertices, indices);
+    grid_walk::walk(
+        numbering.word(),
+        samples,
+        size,
+        span,
+        work,
+        vertices,
+        indices,
+    );
     clear(work, size.work_room());
 }

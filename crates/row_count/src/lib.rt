@@ -5,7 +5,6 @@
 #![tactic(auto)]
 
 ghost use Rattle.std.specs.Prelude.{◌≡◌, suc, ⊤};
-ghost use Rattle.packed_tables.specs.Packed.{new_words};
 ghost use Rattle.row_walk.specs.Steps.{row_parity};
 ghost use Rattle.held_bits.specs.Names.{name_words};
 ghost use Rattle.held_bits.specs.HeldCell.{held_room, clear_held};
@@ -15,6 +14,7 @@ ghost use Rattle.row_count.specs.IdleCells.{counting-idle};
 use grid_size::Size;
 use layer_tally::CellMasks;
 use lent_mesh::Counts;
+use packed_tables::NewWords;
 use row_walk::CellStep;
 use row_walk::layer::{Crossed, Layer};
 
@@ -28,9 +28,8 @@ pub struct CrateCount<'a> {
 // The joined numbering, by another and by the masks of a size.
 #[derive(Clone, Copy)]
 pub struct JoinedCount<'a> {
-    pub news: &'a [u64; 2048],
+    pub news: &'a NewWords,
     pub masks: &'a CellMasks,
-    pub ghost news_are: { news.now ≡ new_words },
 }
 
 impl CellStep for CrateCount<'_> {

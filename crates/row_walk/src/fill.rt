@@ -2,7 +2,7 @@
 
 ghost use Rattle.std.specs.Prelude.{◌≡◌, suc, ◌+◌, ◌*◌};
 ghost use Rattle.walk_models.specs.CacheMemory.{clear_row};
-ghost use Rattle.packed_tables.specs.Packed.{row_words, new_words};
+ghost use Rattle.packed_tables.specs.Packed.{row_words};
 ghost use Rattle.packed_tables.specs.Regular.{regular_words};
 ghost use Rattle.lent_mesh.specs.Cell.{Coordinates};
 ghost use Rattle.joined_slots.specs.OneCell.{Slots};
@@ -14,6 +14,7 @@ use crate::layer::Crossed;
 use grid_size::Size;
 use lent_mesh::Counts;
 use lent_mesh::cell::Cell;
+use packed_tables::NewWords;
 
 // The crate numbering, by the tables that are made once and lent.
 #[derive(Clone, Copy)]
@@ -29,11 +30,10 @@ pub struct CrateFill<'a> {
 #[derive(Clone, Copy)]
 pub struct JoinedFill<'a> {
     pub rows: &'a [u64; 256],
-    pub news: &'a [u64; 2048],
+    pub news: &'a NewWords,
     pub coordinates: &'a [f32; 129],
     pub slots: [usize; 12],
     pub ghost rows_are: { rows.now ≡ row_words },
-    pub ghost news_are: { news.now ≡ new_words },
 }
 
 impl CellStep for CrateFill<'_> {

@@ -17,23 +17,22 @@ use Rattle.joined_edges.proofs.InnerCells.{inner-marks, inner_made}
 use Rattle.joined_edges.proofs.make_new.Goals as goal
 
 pub invariant_of-list : goal.invariant_of-list
-invariant_of-list c = record { known = (new-words _ _ _ _ (omega arith) c.requires.news_value c.new_word-word.ensures).new-known }
+invariant_of-list c = record { known = (new-words _ _ _ (omega arith) c.requires.class_bound c.word-word.ensures).new-known }
 
 -- by marks
 pub returns-then-class-dense-clause-by_index : goal.returns-then-class-dense-clause-by_index
 returns-then-class-dense-clause-by_index c l written =
     let args = c.args in
     let cell = args.here.cell in
-    let known = c.requires.news_value in
     let zero-class = eqb-true args.class 0 (and_left (eqb args.class 0) _ c.if-class-dense.true) in
-    inner_made cell.samples.now cell.size.n cell.x cell.y cell.z args.class args.case (get_or row_words args.case 0) c.new_word-word.result
-    cell.of_grid.in-x cell.of_grid.in-y (new-words _ _ _ _ (omega arith) known c.new_word-word.ensures)
-    (inner-marks args.class args.case c.new_word-word.result args.news.now zero-class (omega arith) known.0 c.new_word-word.ensures)
+    inner_made cell.samples.now cell.size.n cell.x cell.y cell.z args.class args.case (get_or row_words args.case 0) c.word-word.result
+    cell.of_grid.in-x cell.of_grid.in-y (new-words _ _ _ (omega arith) c.requires.class_bound c.word-word.ensures)
+    (inner-marks args.class args.case c.word-word.result zero-class (omega arith) c.word-word.ensures)
     args.work.now l _ args.vertices.now _ args.made written _ (c.make_inner.ensures.by_index l written) c.make_inner.ensures.made_value
 
 pub returns-then-class-dense-clause-made_value : goal.returns-then-class-dense-clause-made_value
 returns-then-class-dense-clause-made_value c =
-    let w = new-words _ _ _ _ (omega arith) c.requires.news_value c.new_word-word.ensures in
+    let w = new-words _ _ _ (omega arith) c.requires.class_bound c.word-word.ensures in
     c.make_inner.ensures.made_value ∙ ap (λ (k : ℕ). c.args.made + k) (sym w.new-count)
 
 -- by the list
@@ -41,11 +40,11 @@ pub returns-else-class-dense-clause-by_index : goal.returns-else-class-dense-cla
 returns-else-class-dense-clause-by_index c l written =
     let args = c.args in
     let cell = args.here.cell in
-    let w = new-words _ _ _ _ (omega arith) c.requires.news_value c.new_word-word.ensures in
+    let w = new-words _ _ _ (omega arith) c.requires.class_bound c.word-word.ensures in
     c.make_all.ensures.by_index l written
     ∙ ap (λ (es : List ℕ). each (make_edge (store_at cell.size.n cell.samples.now) cell.size.n cell.z cell.y cell.x) es (hand args.work.now args.vertices.now l args.made written)) w.new-edges
 
 pub returns-else-class-dense-clause-made_value : goal.returns-else-class-dense-clause-made_value
 returns-else-class-dense-clause-made_value c =
-    let w = new-words _ _ _ _ (omega arith) c.requires.news_value c.new_word-word.ensures in
+    let w = new-words _ _ _ (omega arith) c.requires.class_bound c.word-word.ensures in
     c.make_all.ensures.made_value ∙ ap (λ (k : ℕ). c.args.made + k) (sym w.new-count)

@@ -14,11 +14,11 @@ pub returns-in-Ok : goal.returns-in-Ok
 returns-in-Ok c =
     let a = c.args in
     let accept = c.in-Ok.ensures.accepted in
-    let size = accept.0 in
-    let known : a.numbering ≤ 1 = rw (sym accept.1) (word-le c.in-Ok.known) in
+    let size = accept.1 in
+    let known : a.numbering ≤ 1 = rw (sym accept.2) (word-le c.in-Ok.known) in
     let surface = surface_of a.size a.numbering a.samples.now in
-    let meshed = rw accept.1 at c.meshed.ensures in
+    let meshed = rw (accept.0, accept.2) at c.meshed.ensures in
     record {
       whole = joined _ _ (filled a.size a.numbering a.samples.now a.work.now a.vertices.now a.indices.now surface) meshed
-          (accepted a.size a.numbering a.samples.now a.work.now a.vertices.now a.indices.now size.least size.most known size.samples-whole size.work-room accept.2);
+          (accepted a.size a.numbering a.samples.now a.work.now a.vertices.now a.indices.now size.least size.most known size.samples-whole size.work-room accept.3);
     }

@@ -3,6 +3,6 @@ use mathlib.Core.Path.{refl}
 use Rattle.packed_tables.specs.Packed.{new_words, new_words_by_class}
 use Rattle.packed_tables.proofs.new_words.Goals as goal
 
-pub returns : goal.returns
+pub invariant_of-result : goal.invariant_of-result
 unfolding new_words new_words_by_class
-returns c = refl
+invariant_of-result c = record { words_are = refl }
