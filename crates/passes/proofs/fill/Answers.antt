@@ -1,7 +1,7 @@
 -- `fill`: the layers of the span are walked over the outputs, then the working memory is cleared.
 use mathlib.Core.Path.{sym}
 use native.Mathlib.Nat.{le_of_eq}
-use native.Mathlib.Omega.{arith}
+use borrow.Author.Rules.{rules}
 use Rattle.passes.proofs.Passes.{filled-pass}
 use Rattle.passes.proofs.fill.Goals as goal
 
@@ -13,17 +13,10 @@ walk-requires c =
       grows_within = (c.requires.grows_within, c.requires.accepted.1);
     }
 
-pub clear-requires : goal.clear-requires
-clear-requires c =
-    let room = c.requires.accepted.0.work-room in
-    let is = c.work_room.ensures in
-    let same = c.work-1.given in
-    omega arith
-
 pub returns : goal.returns
 returns c =
     let pass =
-    filled-pass _ _ _ _ _ _ _ _ _ _ c.work_room.ensures c.requires.accepted.0.work-room c.work-1.given c.requires.accepted.1 c.requires.grows_within c.requires.samples_in_bounds.0 c.requires.samples_in_bounds.1 c.walk.ensures.result_after c.clear.ensures in
+    filled-pass _ _ _ _ _ _ _ _ _ _ c.work_room.ensures c.requires.accepted.0.work-room (search rules) c.requires.accepted.1 c.requires.grows_within c.requires.samples_in_bounds.0 c.requires.samples_in_bounds.1 c.walk.ensures.result_after c.clear.ensures in
     record {
       work_after = pass.0;
       vertices_after = pass.1;
