@@ -86,6 +86,7 @@ fn layer_cells<S: CellStep>(
     reached
 }
 
+// A function of its own, for with the literal in its place the proof of the loop did not close.
 fn none_made() -> Counts
     ensures { (result.made ≡ 0) × (result.written ≡ 0) }
 {

@@ -21,7 +21,7 @@ fn counted(cause: u32, counts: Counts) -> Answer
     ensures { result ≡ record { cause = cause; place = 0; vertices = counts.made; indices = counts.written } }
 {
     Answer {
-        cause: cause,
+        cause,
         place: 0,
         vertices: counts.made as u64,
         indices: counts.written as u64,

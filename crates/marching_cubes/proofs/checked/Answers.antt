@@ -1,6 +1,5 @@
 -- `checked`: the tests in the order of the causes.
 use mathlib.Core.Path.{sym, ◌∙◌}
-use native.Mathlib.Omega.{arith}
 use lib.ListN.{length}
 use borrow.Author.Tests.{ltb-true, ltb-false}
 use Rattle.sample_check.specs.Samples.{any_bad, lowest_bad}

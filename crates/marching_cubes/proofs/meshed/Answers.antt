@@ -1,5 +1,5 @@
 -- `meshed`: the causes of an accepted grid, from what `count` and `fill` promise.
-use mathlib.Core.Path.{◌≡◌, ◌∙◌}
+use mathlib.Core.Path.{◌≡◌}
 use native.Mathlib.Omega.{arith}
 use lib.ListN.{length}
 use Rattle.numbering.specs.Word.{word_of}
@@ -8,22 +8,6 @@ use Rattle.marching_cubes.proofs.ByCause.{vertices-left, indices-left, done-left
 use Rattle.marching_cubes.proofs.AfterCount.{cleared-again, cleared-zeros, over_none, over-no-floats}
 use Rattle.marching_cubes.proofs.meshed.Goals as goal
 
-pub count-reach-requires : goal.count-reach-requires
-count-reach-requires c = c.requires
-
-pub overflow_cast-floats : goal.overflow_cast-floats
-overflow_cast-floats c = let most = c.count-reach.ensures.written_bound in
-    let ordered = c.count-reach.result.counts.ordered in
-    omega (arith, most, ordered)
-
-pub overflow_mul-floats : goal.overflow_mul-floats
-overflow_mul-floats c = let most = c.count-reach.ensures.written_bound in
-    let ordered = c.count-reach.result.counts.ordered in
-    omega (arith, most, ordered)
-
-pub shape_of-work-then-vertices-floats : goal.shape_of-work-then-vertices-floats
-shape_of-work-then-vertices-floats c = c.work-1.given
-
 pub returns-then-vertices-floats : goal.returns-then-vertices-floats
 returns-then-vertices-floats c =
     let args = c.args in
@@ -31,21 +15,12 @@ returns-then-vertices-floats c =
     vertices-left args.size.n (word_of args.numbering) args.samples.now args.work.now args.vertices.now args.indices.now s _ _ c.counted.result _
     c.count-reach.ensures.made_value.0 c.count-reach.ensures.made_value.1 c.counted.ensures c.count-reach.ensures.work_after c.if-vertices-floats.true
 
-pub overflow_cast-counts : goal.overflow_cast-counts
-overflow_cast-counts c = omega (arith, c.count-reach.ensures.written_bound)
-
-pub shape_of-work-then-indices-counts : goal.shape_of-work-then-indices-counts
-shape_of-work-then-indices-counts c = c.work-1.given
-
 pub returns-then-indices-counts : goal.returns-then-indices-counts
 returns-then-indices-counts c =
     let args = c.args in
     let s = surface_of args.size.n (word_of args.numbering) args.samples.now in
     indices-left args.size.n (word_of args.numbering) args.samples.now args.work.now args.vertices.now args.indices.now s _ _ c.counted-then-indices-counts.result _
     c.count-reach.ensures.made_value.0 c.count-reach.ensures.made_value.1 c.counted-then-indices-counts.ensures c.count-reach.ensures.work_after c.if-vertices-floats.false c.if-indices-counts.true
-
-pub shape_of-work-then-counts-eq0 : goal.shape_of-work-then-counts-eq0
-shape_of-work-then-counts-eq0 c = c.work-1.given
 
 -- a grid without a surface
 pub returns-then-counts-eq0 : goal.returns-then-counts-eq0
@@ -69,24 +44,14 @@ fill-requires c =
     let floats = c.if-vertices-floats.false in
     let words = c.if-indices-counts.false in
     let pre = c.requires in
-    let same = c.work-1.given in
     record {
       accepted = (
-        record { least = pre.least; most = pre.most; samples-whole = pre.samples-whole; work-room = omega (arith, pre.work-room, same) },
+        record { least = pre.least; most = pre.most; samples-whole = pre.samples-whole; work-room = omega (arith, pre.work-room) },
         cleared-zeros (work_room c.args.size.n) c.args.work.now _ c.count-reach.ensures.work_after,
       );
       grows_within = c.count-reach.ensures.grows_within;
       samples_in_bounds = (omega (arith, made, floats), omega (arith, written, words));
     }
-
-pub shape_of-work : goal.shape_of-work
-shape_of-work c = c.work-2-1.given ∙ c.work-1.given
-
-pub shape_of-vertices : goal.shape_of-vertices
-shape_of-vertices c = c.vertices-1.given
-
-pub shape_of-indices : goal.shape_of-indices
-shape_of-indices c = c.indices-1.given
 
 pub returns : goal.returns
 returns c =
