@@ -22,7 +22,8 @@ pub fn name_words() -> [u32; 256]
     names::NAME_WORDS
 }
 
-// The word of the place (x, y) in a layer.
+// The word of the place (x, y) in a layer. `index_cache` lays out its own places, by other constants: one function for
+// both would take each constant as a parameter and be no plainer.
 fn layer_word(size: Size, x: usize, y: usize, layer: usize) -> usize
     requires { (x < size.n) × (y < size.n) × (layer ≤ 1) }
     ensures { (result ≡ layer_word size.n layer x y) × (result < 2 * (size.n * size.n)) }
@@ -73,6 +74,7 @@ fn new_set(named: u32, held: u32) -> u32
     (named | held) ^ held
 }
 
+// The place stays beside the words: `layer_word` and `row_word` give it, and a sub-slice of one word would be no plainer.
 #[tactic(auto, unfolding(crate::specs::HeldCell::put_set))]
 fn put_set(work: &mut [u32], at: usize, new: u32)
     requires { at < length work.old }

@@ -49,7 +49,8 @@ fn put_column(edge: usize) -> Option<usize>
     }
 }
 
-// The four words of a place in a layer begin at `at`.
+// The four words of a place in a layer begin at `at`. The place stays beside the words, here and below: it is worked out
+// as a number, and a sub-slice made for one store would be no plainer.
 #[tactic(auto, unfolding(walk::specs::Cache::in_layer))]
 fn put_layer(work: &mut [u32], at: usize, edge: usize, index: u32)
     requires { at + 4 ≤ length work.old }

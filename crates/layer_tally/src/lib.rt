@@ -72,7 +72,7 @@ fn next_of(word: u32, next: u32) -> u32
     (word >> 1) | ((next % 2) << 31)
 }
 
-// The signs of the right neighbours.
+// The signs of the right neighbours. The place stays beside the words, for the next word is read too: no plainer otherwise.
 fn next_word(words: &[u32; 513], at: usize) -> u32
     requires { at < 512 }
     ensures { NextFrom (get_or words.now at 0) (get_or words.now (at + 1) 0) result }

@@ -41,6 +41,8 @@ pub fn put_index(indices: &mut [u32], place: u32, number: u32)
     }
 }
 
+// The place stays beside the slice, here and in `store`: a numbering gives it, and a sub-slice made for three stores would
+// be no plainer.
 fn store_three(indices: &mut [u32], at: usize, a: u32, b: u32, c: u32)
     requires { at + 2 < length indices.old }
     ensures { indices.new ≡ set (set (set indices.old at a) (at + 1) b) (at + 2) c }

@@ -52,6 +52,7 @@ fn list_grid(text: &mut Text<'_>, header: Header, samples: &[f32])
         &mut vertices,
         &mut indices,
     );
+    // The answer has a cause of 0 for none: it is the one that C reads.
     if answer.cause != 0 {
         put_refused(text, answer.cause, answer.place);
         return;

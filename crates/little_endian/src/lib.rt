@@ -11,7 +11,7 @@ ghost use Rattle.little_endian.specs.Words.{word_at, word_bytes};
 
 use std::num::{f32_from_bits_with_nan, f32_to_bits_with_nan};
 
-// The u32 that begins at a byte place.
+// The u32 that begins at a byte place. The place stays a parameter, here and in `put_word`: what they promise speaks of it.
 pub fn word_at(bytes: &[u8], at: usize) -> u32
     requires { at + 4 ≤ length bytes.now }
     ensures { result ≡ word_at bytes.now at }

@@ -16,7 +16,8 @@ use numbering::Numbering;
 use outcome::Answer;
 use refusals::Refusal;
 
-// The answer of a grid that was counted; 0, 6 and 7 are the causes that C reads.
+// The answer of a grid that was counted. The cause, 0, 6 or 7, stays a number: an enum of the three would be no plainer,
+// for it would be made here alone and turned into the number at once.
 fn counted(cause: u32, counts: Counts) -> Answer
     ensures { result ≡ record { cause = cause; place = 0; vertices = counts.made; indices = counts.written } }
 {

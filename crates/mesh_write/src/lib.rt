@@ -77,7 +77,8 @@ fn check_fields(coordinates: usize, indices: usize) -> Result<(), Refusal>
     Ok(())
 }
 
-// The lowest bad vertex or index, where both counts fit their words.
+// The lowest bad vertex or index, where both counts fit their words. The reader finds its own in bytes: one function over
+// either would take the places and both tests as parameters, and be no plainer.
 fn check_contents(coordinates: &[f32], indices: &[u32]) -> Result<(), Refusal>
     requires { (length coordinates.now ≤ 12884901885) × (length indices.now ≤ 4294967295) }
     ensures { result ≡ contents 28 (mesh_of 0 0 coordinates.now indices.now) }

@@ -27,6 +27,8 @@ const DILATE_MASK_1: u64 = 0x01C0_E070_381C_0E07; // 3 bits at 0, 9, .., 54
 
 const DILATE_MASK_0: u64 = 0x9249_2492_4924_9249; // bits 0, 3, .., 63
 
+// The Rust's own record of a center. A mesh's vertex has one of its own, which document 01 names: one for both would stand
+// below crates that have nothing else in common, and be no plainer.
 #[derive(Clone, Copy)]
 pub struct Vec3 {
     pub x: f32,

@@ -1,5 +1,5 @@
-// The answer about a sample record as it crosses the C boundary, and as the listing program takes it:
-// the cause and the place beside the size and the numbering.
+// The answer about a sample record as it crosses the C boundary: the cause and the place beside the size and the
+// numbering.
 
 #![tactic(auto)]
 

@@ -1,4 +1,5 @@
-// The steps of the two numberings that fill the lent outputs.
+// The steps of the two numberings that fill the lent outputs. Both make the `Cell` by its fields: a function for it would
+// say each of the six again in what it ensures, and be no plainer.
 
 ghost use Rattle.std.specs.Prelude.{◌≡◌, suc, ◌+◌, ◌*◌};
 ghost use Rattle.walk_models.specs.CacheMemory.{clear_row};

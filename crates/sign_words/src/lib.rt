@@ -74,7 +74,9 @@ fn end_word(row: &[f32], k: usize) -> u32
     }
 }
 
-// The whole words of row y. They have a loop of their own, since most words are whole.
+// The whole words of row y. They have a loop of their own, since most words are whole: with one loop the call was slower
+// (docs/BENCH.md). That y is below 128 stays a clause, here, in `fill_end` and in sign_cells: y is a loop's count, and a
+// type for it would be no plainer.
 fn fill_whole(row: &[f32], y: usize, words: &mut [u32; 513])
     requires { (length row.now ≤ 128) × (y < 128) }
     ensures { WordsFilled row.now y 0 (length row.now / 32) words.old words.new }
