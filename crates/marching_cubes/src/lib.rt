@@ -60,7 +60,8 @@ fn meshed(
     counted(0, counts)
 }
 
-// Causes 1 to 5, tried in order.
+// Causes 1 to 5, tried in order. The size and the numbering are words here and in `extract`: the C interface hands them
+// over, good or bad.
 fn checked(
     size: u32,
     numbering: u32,

@@ -6,10 +6,12 @@ ghost use Rattle.std.specs.Prelude.{◌≡◌};
 ghost use Rattle.mesh_record.specs.Refusals.{opening};
 ghost use Rattle.mesh_record.specs.Mesh.{finite};
 
+use grid_size::Size;
 use numbering::Numbering;
 use refusals::Refusal;
 
-// The first words of a header, as the library takes a size and a numbering.
+// The first words of a header, as the library takes a size and a numbering. All three are words as they stand there, and
+// any may come: what is promised speaks of every word.
 #[tactic(auto, unfolding(crate::specs::Refusals::opening))]
 pub fn check_opening(version: u32, size: u32, numbering: u32) -> Result<(), Refusal>
     ensures { result ≡ opening version size numbering }
@@ -17,9 +19,7 @@ pub fn check_opening(version: u32, size: u32, numbering: u32) -> Result<(), Refu
     if version != 1 {
         return Err(Refusal::Malformed(0));
     }
-    if size < 2 || 128 < size {
-        return Err(Refusal::Size);
-    }
+    Size::try_from(size)?;
     Numbering::try_from(numbering)?;
     Ok(())
 }

@@ -22,6 +22,7 @@ pub struct WriteAnswer {
     pub bytes: u64,
 }
 
+// Two answers whose names say the cause: one function with its number as a parameter would be no plainer.
 impl WriteAnswer {
     // Cause 0: so many bytes are written.
     fn done(bytes: usize) -> WriteAnswer
@@ -95,7 +96,8 @@ fn check_contents(coordinates: &[f32], indices: &[u32]) -> Result<(), Refusal>
     Ok(())
 }
 
-// A mesh as it is lent: three coordinates to a vertex, three indices to a triangle.
+// A mesh as it is lent: three coordinates to a vertex, three indices to a triangle. The numbering is the word that the C
+// interface hands over, good or bad.
 #[derive(Clone, Copy)]
 pub struct LentMesh<'a> {
     pub size: u32,

@@ -1,1 +1,2 @@
 pub mod TopBit
+pub mod Children

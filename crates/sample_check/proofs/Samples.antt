@@ -8,8 +8,8 @@ use native.Mathlib.Nat.{not-suc-le-zero, le_of_suc-le-suc}
 use native.Mathlib.Numerals.{add-one}
 use native.Mathlib.Omega.{arith}
 use lib.Dec.{ltb}
-use lib.ListN.{length, get_or, take}
-use lib.Seq.{take-suc}
+use lib.ListN.{length, get_or, take, drop}
+use lib.Seq.{take-suc, drop-cons}
 use borrow.Author.Tests.{ltb-false, not-false, lt-ltb, le-ltb}
 use lib.Ieee.{Float, nan}
 use Rattle.marching_cubes_tables.proofs.Tests.{lt-or-ge}
@@ -43,6 +43,20 @@ flag_suc samples i h =
     ∙ ap any_bad (sym (take-suc samples i nan h) ∙ ap (λ (k : ℕ). take k samples) (sym (add-one i)))
 
 -- ---- the search
+
+-- what the search finds from one place on, by the sample there
+module _ (samples : List Float) (i : ℕ) (within : i < length samples) where
+  pub lowest_bad-good : good (get_or samples i nan) ≡ true → i + lowest_bad (drop i samples) ≡ i + 1 + lowest_bad (drop (i + 1) samples)
+  unfolding lowest_bad
+  lowest_bad-good h =
+      let here : lowest_bad (drop i samples) ≡ suc (lowest_bad (drop (i + 1) samples)) = rw (drop-cons samples i nan within, h, add-one) in
+      omega arith
+
+  pub lowest_bad-bad : good (get_or samples i nan) ≡ false → i + lowest_bad (drop i samples) ≡ i
+  unfolding lowest_bad
+  lowest_bad-bad h =
+      let here : lowest_bad (drop i samples) ≡ 0 = rw (drop-cons samples i nan within, h) in
+      omega arith
 
 pub position_bad : (samples : List Float) → position (λ v. not (good v)) samples ≡ then_some (any_bad samples) (lowest_bad samples)
 unfolding any_bad lowest_bad
