@@ -10,7 +10,6 @@ ghost use Rattle.std.specs.Prelude.{◌≡◌, ◌+◌, ◌-◌, ◌*◌, ◌^�
 ghost use Rattle.held_bits.specs.Names.{name_words};
 ghost use Rattle.held_bits.specs.HeldCell.{held, held_room, layer_word, row_word, named_set, first_made, held_set, new_set, put_set, held_cell, clear_held, HeldRoom};
 
-use grid_size::Size;
 use index_cache::Parity;
 use lent_mesh::Counts;
 
@@ -24,19 +23,20 @@ pub fn name_words() -> [u32; 256]
 
 // The word of the place (x, y) in a layer. `index_cache` lays out its own places, by other constants: one function for
 // both would take each constant as a parameter and be no plainer.
-fn layer_word(size: Size, x: usize, y: usize, layer: usize) -> usize
-    requires { (x < size.n) × (y < size.n) × (layer ≤ 1) }
-    ensures { (result ≡ layer_word size.n layer x y) × (result < 2 * (size.n * size.n)) }
+// The size is a number to 128 here and below: a `Size` begins at 2, and nothing here asks for that.
+fn layer_word(n: usize, x: usize, y: usize, layer: usize) -> usize
+    requires { (n ≤ 128) × (x < n) × (y < n) × (layer ≤ 1) }
+    ensures { (result ≡ layer_word n layer x y) × (result < 2 * (n * n)) }
 {
-    2 * (y * size.n + x) + layer
+    2 * (y * n + x) + layer
 }
 
 // The word of the place x in a row.
-fn row_word(size: Size, x: usize, row: usize) -> usize
-    requires { (x < size.n) × (row ≤ 1) }
-    ensures { (result ≡ row_word size.n row x) × (result < held_room size.n) }
+fn row_word(n: usize, x: usize, row: usize) -> usize
+    requires { (n ≤ 128) × (x < n) × (row ≤ 1) }
+    ensures { (result ≡ row_word n row x) × (result < held_room n) }
 {
-    2 * (size.n * size.n) + 2 * x + row
+    2 * (n * n) + 2 * x + row
 }
 
 // The edges that a cell can make. Whether it is the cell that makes vertex 0 is told by the indices and
@@ -87,7 +87,7 @@ fn put_set(work: &mut [u32], at: usize, new: u32)
 // `written_fits` stays a clause, here and above: what room is left changes with each cell, and so no type holds it.
 pub fn held_cell(
     names: &[u32; 256],
-    size: Size,
+    n: usize,
     x: usize,
     y: usize,
     case: u8,
@@ -96,21 +96,22 @@ pub fn held_cell(
     counts: Counts,
 ) -> Counts
     requires names_value { names.now ≡ name_words }
-    requires held_room { HeldRoom size.n work.old }
-    requires x_lt_n { (x < size.n) × (y < size.n) }
+    requires most { n ≤ 128 }
+    requires held_room { HeldRoom n work.old }
+    requires x_lt_n { (x < n) × (y < n) }
     requires written_fits { counts.written + 15 < 2 ^ 32 }
-    ensures result_after { held work.new result ≡ held_cell size.n parity.layer parity.row x y (get_or name_words case 0) (held work.old counts) }
+    ensures result_after { held work.new result ≡ held_cell n parity.layer parity.row x y (get_or name_words case 0) (held work.old counts) }
     ensures written_bound { result.written ≤ counts.written + 15 }
 {
     let word = names[case as usize];
-    let layer_set = work[layer_word(size, x, y, parity.layer)];
-    let row_set = work[row_word(size, x, parity.row)];
+    let layer_set = work[layer_word(n, x, y, parity.layer)];
+    let row_set = work[row_word(n, x, parity.row)];
     let new = new_set(
         named_set(word, counts.written),
         held_set(layer_set, row_set),
     );
-    put_set(work, layer_word(size, x, y, 1 - parity.layer), new);
-    put_set(work, row_word(size, x, 1 - parity.row), new);
+    put_set(work, layer_word(n, x, y, 1 - parity.layer), new);
+    put_set(work, row_word(n, x, 1 - parity.row), new);
     let first = first_made(word, counts.written);
     Counts {
         made: counts.made + first + u32::count_ones(new),
@@ -119,12 +120,13 @@ pub fn held_cell(
 }
 
 // At the end of a layer: the words of the row that is read next.
-pub fn clear_held(work: &mut [u32], size: Size, row: usize)
-    requires held_room { HeldRoom size.n work.old }
+pub fn clear_held(work: &mut [u32], n: usize, row: usize)
+    requires most { n ≤ 128 }
+    requires held_room { HeldRoom n work.old }
     requires row_le { row ≤ 1 }
-    ensures { work.new ≡ clear_held size.n row size.n work.old }
+    ensures { work.new ≡ clear_held n row n work.old }
 {
-    for x in 0..size.n {
-        work[row_word(size, x, row)] = 0;
+    for x in 0..n {
+        work[row_word(n, x, row)] = 0;
     }
 }

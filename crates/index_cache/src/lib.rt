@@ -8,8 +8,6 @@ ghost use Rattle.walk.specs.Cache.{in_layer, put_column};
 ghost use Rattle.walk_models.specs.CacheMemory.{put_layer, put_row, clear_row};
 ghost use Rattle.index_cache.specs.Found.{CacheRoom, found_all};
 
-use grid_size::Size;
-
 // The layer and the row of the cache that a cell reads, 0 or 1 each; it writes the others.
 #[derive(Clone, Copy)]
 pub struct Parity {
@@ -20,20 +18,21 @@ pub struct Parity {
 }
 
 // Where the four words of the place (x, y) in a layer begin.
+// The size is a number to 128 here and below: a `Size` begins at 2, and nothing here asks for that.
 // These bounds stay clauses: a cell and its `Parity` give them, and a type would be made anew for each of these calls.
-fn layer_place(size: Size, x: usize, y: usize, layer: usize) -> usize
-    requires { (x < size.n) × (y < size.n) × (layer ≤ 1) }
-    ensures { (result ≡ 8 * (y * size.n + x) + 4 * layer) × (result + 4 ≤ 8 * (size.n * size.n)) }
+fn layer_place(n: usize, x: usize, y: usize, layer: usize) -> usize
+    requires { (n ≤ 128) × (x < n) × (y < n) × (layer ≤ 1) }
+    ensures { (result ≡ 8 * (y * n + x) + 4 * layer) × (result + 4 ≤ 8 * (n * n)) }
 {
-    8 * (y * size.n + x) + 4 * layer
+    8 * (y * n + x) + 4 * layer
 }
 
 // Where the three words of the place x in a row begin.
-fn row_place(size: Size, x: usize, row: usize) -> usize
-    requires { (x < size.n) × (row ≤ 1) }
-    ensures { (result ≡ 8 * (size.n * size.n) + 6 * x + 3 * row) × (result + 3 ≤ 8 * (size.n * size.n) + 6 * size.n) }
+fn row_place(n: usize, x: usize, row: usize) -> usize
+    requires { (n ≤ 128) × (x < n) × (row ≤ 1) }
+    ensures { (result ≡ 8 * (n * n) + 6 * x + 3 * row) × (result + 3 ≤ 8 * (n * n) + 6 * n) }
 {
-    8 * (size.n * size.n) + 6 * x + 3 * row
+    8 * (n * n) + 6 * x + 3 * row
 }
 
 // The column of `rows` that `put` writes for an edge, if any.
@@ -72,31 +71,25 @@ fn put_row(work: &mut [u32], at: usize, edge: usize, index: u32)
 }
 
 // `put`, but for `current_cell`: into the layer and the row that are not read.
-pub fn put(
-    work: &mut [u32],
-    size: Size,
-    x: usize,
-    y: usize,
-    parity: Parity,
-    edge: usize,
-    index: u32,
-)
-    requires cache_room { CacheRoom size.n work.old }
-    requires x_lt_n { (x < size.n) × (y < size.n) }
-    ensures { work.new ≡ put_row size.n (1 - parity.row) x edge index (put_layer size.n (1 - parity.layer) x y edge index work.old) }
+pub fn put(work: &mut [u32], n: usize, x: usize, y: usize, parity: Parity, edge: usize, index: u32)
+    requires most { n ≤ 128 }
+    requires cache_room { CacheRoom n work.old }
+    requires x_lt_n { (x < n) × (y < n) }
+    ensures { work.new ≡ put_row n (1 - parity.row) x edge index (put_layer n (1 - parity.layer) x y edge index work.old) }
 {
-    put_layer(work, layer_place(size, x, y, 1 - parity.layer), edge, index);
-    put_row(work, row_place(size, x, 1 - parity.row), edge, index);
+    put_layer(work, layer_place(n, x, y, 1 - parity.layer), edge, index);
+    put_row(work, row_place(n, x, 1 - parity.row), edge, index);
 }
 
 // What `get` finds for each edge before it turns to `current_cell`.
-pub fn found(work: &[u32], size: Size, x: usize, y: usize, parity: Parity) -> [u32; 12]
-    requires cache_room { CacheRoom size.n work.now }
-    requires x_lt_n { (x < size.n) × (y < size.n) }
-    ensures { result ≡ found_all size.n x y parity.layer parity.row work.now }
+pub fn found(work: &[u32], n: usize, x: usize, y: usize, parity: Parity) -> [u32; 12]
+    requires most { n ≤ 128 }
+    requires cache_room { CacheRoom n work.now }
+    requires x_lt_n { (x < n) × (y < n) }
+    ensures { result ≡ found_all n x y parity.layer parity.row work.now }
 {
-    let a = layer_place(size, x, y, parity.layer);
-    let b = row_place(size, x, parity.row);
+    let a = layer_place(n, x, y, parity.layer);
+    let b = row_place(n, x, parity.row);
     [
         work[a],
         work[a + 1],
@@ -123,12 +116,13 @@ fn clear_three(work: &mut [u32], at: usize)
 }
 
 // The part of `advance_layer` that clears `rows[0]`.
-pub fn clear_row(work: &mut [u32], size: Size, row: usize)
-    requires cache_room { CacheRoom size.n work.old }
+pub fn clear_row(work: &mut [u32], n: usize, row: usize)
+    requires most { n ≤ 128 }
+    requires cache_room { CacheRoom n work.old }
     requires row_le { row ≤ 1 }
-    ensures { work.new ≡ clear_row size.n row size.n work.old }
+    ensures { work.new ≡ clear_row n row n work.old }
 {
-    for x in 0..size.n {
-        clear_three(work, row_place(size, x, row));
+    for x in 0..n {
+        clear_three(work, row_place(n, x, row));
     }
 }

@@ -9,16 +9,16 @@ ghost use Rattle.std.specs.Prelude.{◌≡◌, ℕ, ◌≤◌, eqb};
 ghost use Rattle.walk.specs.Walk.{bit};
 ghost use Rattle.joined_slots.specs.OneCell.{Slots, class_of};
 
-use grid_size::Size;
-
 // Where the twelve edges of a cell of layer z have their numbers, from the cell's own place on.
+// A number to 128 and no `Size`, which begins at 2: nothing here asks for that.
 #[tactic(auto, using(crate::proofs::TwelveSlots::slots_hold))]
-pub fn slots(size: Size, z: usize) -> [usize; 12]
-    ensures { Slots size.n z result }
+pub fn slots(n: usize, z: usize) -> [usize; 12]
+    requires most { n ≤ 128 }
+    ensures { Slots n z result }
 {
     let here = z % 2;
     let above = 1 - here;
-    let row = 8 * size.n;
+    let row = 8 * n;
     [
         here,
         10 + here,

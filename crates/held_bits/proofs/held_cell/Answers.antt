@@ -33,5 +33,5 @@ returns-clause-result_after c =
     let case_lt : args.case < 256 = search rules in
     cell-done args.names.now args.work.now args.case _ _ _ _ _ _ args.counts.written table case_lt
     c.named_set.ensures c.held_set.ensures c.new_set-new.ensures c.first_made-first.ensures
-    args.size.n args.parity.layer args.parity.row args.x args.y args.counts.made _ _ _ _ _ _
+    args.n args.parity.layer args.parity.row args.x args.y args.counts.made _ _ _ _ _ _
     c.layer_word.ensures.0 refl c.row_word.ensures.0 refl c.layer_word-2.ensures.0 c.put_set.ensures c.row_word-2.ensures.0 c.put_set-2.ensures
