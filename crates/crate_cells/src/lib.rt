@@ -46,7 +46,7 @@ pub fn crate_cell(
     let index = usize::from(case);
     let word = rows[index];
     let regular = regulars[index];
-    let mut current = index_cache::found(work, cell.size, cell.x, cell.y, parity);
+    let mut current = index_cache::found(work, cell.size.n, cell.x, cell.y, parity);
     if (counts.made > 0) & regular_cells::is_regular(regular, &current) {
         return regular_cells::regular_visits(
             cell,

@@ -30,7 +30,7 @@ pub fn make_edge(
     ensures { let at = cell.entry in (is : List ℕ) (m w : ℕ) → hand (in_cell work.new parity.layer parity.row current.new) vertices.new is m w
         ≡ number_edge at.size.n at.samples.now at.x at.y at.z edge number (hand (in_cell work.old parity.layer parity.row current.old) vertices.old is m w) }
 {
-    index_cache::put(work, cell.size, cell.x, cell.y, parity, edge, number);
+    index_cache::put(work, cell.size.n, cell.x, cell.y, parity, edge, number);
     current[edge] = number;
     cell.put_vertex(edge, vertices, number);
 }

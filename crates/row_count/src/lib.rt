@@ -58,7 +58,7 @@ impl CellStep for CrateCount<'_> {
         let row = here.row;
         held_bits::held_cell(
             self.names,
-            row.layer.size,
+            row.layer.size.n,
             here.x,
             row.y,
             here.case,
@@ -69,7 +69,7 @@ impl CellStep for CrateCount<'_> {
     }
 
     fn end_layer(&self, size: Size, row: usize, work: &mut [u32]) {
-        held_bits::clear_held(work, size, row);
+        held_bits::clear_held(work, size.n, row);
     }
 
     ghost idle = { counting-idle 0 };

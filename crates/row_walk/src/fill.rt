@@ -82,7 +82,7 @@ impl CellStep for CrateFill<'_> {
     }
 
     fn end_layer(&self, size: Size, row: usize, work: &mut [u32]) {
-        index_cache::clear_row(work, size, row);
+        index_cache::clear_row(work, size.n, row);
     }
 
     ghost idle = { cell_step-idle 0 };
@@ -104,7 +104,7 @@ impl CellStep for JoinedFill<'_> {
             rows: self.rows,
             news: self.news,
             coordinates: self.coordinates,
-            slots: joined_slots::slots(size, z),
+            slots: joined_slots::slots(size.n, z),
         }
     }
 
