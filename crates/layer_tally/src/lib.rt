@@ -15,7 +15,7 @@ use sign_words::Layers;
 
 // The bits of a layer's words that stand for cells, and those for the first cell of each row, in a grid of a
 // size. It has 4 KB: lend it.
-#[derive(Drop)]
+#[derive(Clone, Copy)]
 pub struct CellMasks {
     pub masks: [u32; 513],
     pub firsts: [u32; 513],

@@ -19,7 +19,7 @@ pub fn row_words() -> [u64; 256]
 }
 
 // The new edges of a cell in a word, by its class and its sign byte.
-#[derive(Drop)]
+#[derive(Clone, Copy)]
 pub struct NewWords {
     pub words: [u64; 2048],
     pub ghost words_are: { words ≡ new_words },
