@@ -88,7 +88,10 @@ impl PackedTriangles {
         ensures place_value { result ≡ place + 3 * self.count }
     {
         for (a, b, c) in self {
-            lent_mesh::put_three(indices, place, number(a), number(b), number(c));
+            let first = number(a);
+            let second = number(b);
+            let third = number(c);
+            lent_mesh::put_three(indices, place, first, second, third);
             place += 3;
         }
         place

@@ -10,7 +10,7 @@ use Rattle.lent_mesh.specs.Grid.{inside_of}
 use Rattle.lent_mesh.specs.Stored.{store_at, in_hand}
 use Rattle.joined_slots.proofs.TwelveSlots.{slots-from}
 use Rattle.joined_edges.proofs.PackedSteps.{row-of-numbers}
-use Rattle.joined_edges.proofs.CellWords.{cell-words, class-lt, counts-grown, cell-passes}
+use Rattle.joined_edges.proofs.CellWords.{cell-words, class-lt, cell-passes}
 use Rattle.joined_edges.proofs.joined_cell.Goals as goal
 
 pub invariant_of-here : goal.invariant_of-here
@@ -32,13 +32,13 @@ pub put_numbers-written-requires-clause-place_fits : goal.put_numbers-written-re
 put_numbers-written-requires-clause-place_fits c =
     let given = c.requires in
     let w = cell-words _ _ _ _ _ _ _ _ given.rows_value.0 c.from.ensures given.case_value.0 given.case_value.1 in
-    omega (arith, w.row-most, given.n_in_bounds.1)
+    omega (arith, w.row-most, given.n_in_bounds.1, c.args.counts.ordered)
 
 pub invariant_of-result : goal.invariant_of-result
 invariant_of-result c =
     let given = c.requires in
     let w = cell-words _ _ _ _ _ _ _ _ given.rows_value.0 c.from.ensures given.case_value.0 given.case_value.1 in
-    record { ordered = (counts-grown _ _ _ _ _ _ _ _ w c.args.counts.ordered c.make_new-made.ensures.made_value c.put_numbers-written.ensures.place_value).0 }
+    record { ordered = omega (arith, w.new-most, w.new-count, c.args.counts.ordered, c.make_new-made.ensures.made_value, c.put_numbers-written.ensures.place_value) }
 
 pub returns-clause-result_after : goal.returns-clause-result_after
 returns-clause-result_after c =
@@ -60,4 +60,4 @@ pub returns-clause-written_bound : goal.returns-clause-written_bound
 returns-clause-written_bound c =
     let given = c.requires in
     let w = cell-words _ _ _ _ _ _ _ _ given.rows_value.0 c.from.ensures given.case_value.0 given.case_value.1 in
-    omega (arith, w.row-most, c.put_numbers-written.ensures.place_value)
+    omega (arith, w.row-most, c.args.counts.ordered, c.put_numbers-written.ensures.place_value)

@@ -13,4 +13,4 @@ pub returns-clause-in_work : goal.returns-clause-in_work
 returns-clause-in_work c =
     let here = c.args.self in
     let cell = here.cell.of_grid in
-    slot-in-work here.at here.cell.size.n here.cell.x here.cell.y here.cell.z c.args.edge here.slots.now here.slots_are cell.in-x cell.in-y c.requires
+    omega (arith, slot-in-work here.at here.cell.size.n here.cell.x here.cell.y here.cell.z c.args.edge here.slots.now here.slots_are cell.in-x cell.in-y c.requires)

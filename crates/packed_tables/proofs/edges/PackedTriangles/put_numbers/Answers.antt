@@ -9,14 +9,14 @@ use Rattle.packed_tables.proofs.PackedEdges.{triangle-known, triangles-length}
 use Rattle.packed_tables.proofs.NumbersPut.{turn-put, all-put}
 use Rattle.packed_tables.proofs.edges.PackedTriangles.put_numbers.Goals as goal
 
-pub number-requires : goal.number-requires
-number-requires g c = c.requires.callable c.in-Some.a (triangle-known c.loop-a.a-iterator c.in-Some.a c.in-Some.b c.in-Some.c _ c.in-Some.ensures.steps).0
+pub number-first-requires : goal.number-first-requires
+number-first-requires g c = c.requires.callable c.in-Some.a (triangle-known c.loop-a.a-iterator c.in-Some.a c.in-Some.b c.in-Some.c _ c.in-Some.ensures.steps).0
 
-pub number-requires-in-loop-a : goal.number-requires-in-loop-a
-number-requires-in-loop-a g c = c.requires.callable c.in-Some.b (triangle-known c.loop-a.a-iterator c.in-Some.a c.in-Some.b c.in-Some.c _ c.in-Some.ensures.steps).1
+pub number-second-requires : goal.number-second-requires
+number-second-requires g c = c.requires.callable c.in-Some.b (triangle-known c.loop-a.a-iterator c.in-Some.a c.in-Some.b c.in-Some.c _ c.in-Some.ensures.steps).1
 
-pub number-requires-in-loop-a-2 : goal.number-requires-in-loop-a-2
-number-requires-in-loop-a-2 g c = c.requires.callable c.in-Some.c (triangle-known c.loop-a.a-iterator c.in-Some.a c.in-Some.b c.in-Some.c _ c.in-Some.ensures.steps).2
+pub number-third-requires : goal.number-third-requires
+number-third-requires g c = c.requires.callable c.in-Some.c (triangle-known c.loop-a.a-iterator c.in-Some.a c.in-Some.b c.in-Some.c _ c.in-Some.ensures.steps).2
 
 pub put_three-requires : goal.put_three-requires
 put_three-requires g c =
@@ -39,11 +39,11 @@ loop-a-preserved g c =
       counted = omega (arith, one, inv.counted);
       kept = c.put_three.auto.indices ∙ inv.kept;
       whole = λ f tells.
-          turn-put f c.in-Some.a c.in-Some.b c.in-Some.c c.number.result c.number-in-loop-a.result c.number-in-loop-a-2.result
+          turn-put f c.in-Some.a c.in-Some.b c.in-Some.c c.number-first.result c.number-second.result c.number-third.result
           (triangles_left c.loop-a.a-iterator) _ c.loop-a.place c.loop-a.indices c.put_three.new.indices c.in-Some.ensures.steps
-          (tells c.in-Some.a c.number.result known.0 c.number.ensures)
-          (tells c.in-Some.b c.number-in-loop-a.result known.1 c.number-in-loop-a.ensures)
-          (tells c.in-Some.c c.number-in-loop-a-2.result known.2 c.number-in-loop-a-2.ensures)
+          (tells c.in-Some.a c.number-first.result known.0 c.number-first.ensures)
+          (tells c.in-Some.b c.number-second.result known.1 c.number-second.ensures)
+          (tells c.in-Some.c c.number-third.result known.2 c.number-third.ensures)
           c.put_three.ensures
           ∙ inv.whole f tells;
     }
