@@ -14,6 +14,14 @@ pub struct Size {
     pub ghost most: { n ≤ 128 },
 }
 
+// The words of working memory that n samples to a side ask for, whether or not the library takes so few.
+pub fn work_room(n: usize) -> usize
+    requires { n ≤ 128 }
+    ensures { result ≡ 8 * (n * n) + 6 * n }
+{
+    8 * (n * n) + 6 * n
+}
+
 impl Size {
     // How many samples a grid of this size has.
     pub fn samples(self) -> usize
@@ -26,6 +34,6 @@ impl Size {
     pub fn work_room(self) -> usize
         ensures { result ≡ 8 * (self.n * self.n) + 6 * self.n }
     {
-        8 * (self.n * self.n) + 6 * self.n
+        work_room(self.n)
     }
 }

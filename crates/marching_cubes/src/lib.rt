@@ -4,9 +4,10 @@
 #![tactic(auto)]
 
 ghost use Rattle.std.specs.Prelude.{◌≡◌, List, ℕ, IfOk, IfErr, ◌≤◌, length, Float};
+ghost use Rattle.std.specs.Bool.{then_some};
 ghost use Rattle.numbering.specs.Word.{word_of};
 ghost use Rattle.refusals.specs.Causes.{cause_of, place_of};
-ghost use Rattle.sample_check.specs.Samples.{lowest_bad};
+ghost use Rattle.sample_check.specs.Samples.{any_bad, lowest_bad};
 ghost use Rattle.outcome.specs.Outcome.{Outcome, surface_of, left, refused, filled, outcome};
 ghost use Rattle.passes.specs.Accepted.{Accepted};
 
@@ -42,7 +43,8 @@ fn meshed(
     ensures { left result work.new vertices.new indices.new
         ≡ filled size.n (word_of numbering) samples.now work.old vertices.old indices.old (surface_of size.n (word_of numbering) samples.now) }
 {
-    let reach = passes::count(numbering, samples, size, work);
+    let word = numbering.word();
+    let reach = passes::count(word, samples, size, work);
     let counts = reach.counts;
     let floats = 3 * (counts.made as usize);
     if vertices.len() < floats {
@@ -54,10 +56,20 @@ fn meshed(
     if counts.written == 0 {
         return counted(0, counts);
     }
-    passes::fill(
-        numbering, samples, size, reach.span, work, vertices, indices,
-    );
+    passes::fill(word, samples, size, reach.span, work, vertices, indices);
     counted(0, counts)
+}
+
+// The place of the first sample that is refused, if there is one. Where there is none, the flag pass alone says so, which
+// takes several samples at a time.
+fn first_refused(samples: &[f32]) -> Option<usize>
+    ensures { result ≡ then_some (any_bad samples.now) (lowest_bad samples.now) }
+{
+    if sample_check::any_bad(samples) {
+        sample_check::lowest_bad(samples)
+    } else {
+        None
+    }
 }
 
 // Causes 1 to 5, tried in order. The size and the numbering are words here and in `extract`: the C interface hands them
@@ -74,13 +86,14 @@ fn checked(
 {
     let grid = Size::try_from(size)?;
     let known = Numbering::try_from(numbering)?;
-    if samples.len() != grid.samples() {
+    let count = grid.samples();
+    if samples.len() != count {
         return Err(Refusal::SampleCount);
     }
     if work.len() < grid.work_room() {
         return Err(Refusal::WorkingMemory);
     }
-    if let Some(at) = sample_check::lowest_bad(samples) {
+    if let Some(at) = first_refused(samples) {
         return Err(Refusal::Sample(at as u64));
     }
     Ok((grid, known))

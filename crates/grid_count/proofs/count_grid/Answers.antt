@@ -1,8 +1,8 @@
 -- `count_grid`: either numbering by its own step, from nothing counted.
-use mathlib.Core.Path.{ap, ◌∙◌}
+use mathlib.Core.Path.{◌≡◌, ap, ◌∙◌}
 use mathlib.Core.List.{List, []}
-use Prim.Native.Nat.{ℕ, zero-le}
-use native.Mathlib.Nat.{le_refl}
+use Prim.Native.Nat.{ℕ, ◌<◌}
+use native.Mathlib.Omega.{arith}
 use lib.Ieee.{Float}
 use Rattle.walk_models.specs.Lent.{untouched}
 use Rattle.row_walk.specs.Steps.{Hand}
@@ -19,29 +19,34 @@ abbrev written : Held → ℕ
 written t = t.written
 
 pub walk_layers-requires-clause-begun : goal.walk_layers-requires-clause-begun
-walk_layers-requires-clause-begun c = (zero-le, le_refl _, none-before _ _ c.args.size.n c.args.samples.now _)
+walk_layers-requires-clause-begun c = (omega arith, omega arith, none-before _ _ c.args.size.n c.args.samples.now _)
 
-pub walk_layers-requires-in-Joined-clause-begun : goal.walk_layers-requires-in-Joined-clause-begun
-walk_layers-requires-in-Joined-clause-begun c = (zero-le, le_refl _, none-before _ _ c.args.size.n c.args.samples.now _)
+pub walk_layers-requires-else-numbering-eq0-clause-begun : goal.walk_layers-requires-else-numbering-eq0-clause-begun
+walk_layers-requires-else-numbering-eq0-clause-begun c = (omega arith, omega arith, none-before _ _ c.args.size.n c.args.samples.now _)
 
-pub returns-in-Crate-clause-counts_value : goal.returns-in-Crate-clause-counts_value
-returns-in-Crate-clause-counts_value c =
+pub returns-then-numbering-eq0-clause-counts_value : goal.returns-then-numbering-eq0-clause-counts_value
+returns-then-numbering-eq0-clause-counts_value c =
     let args = c.args in
-    rw c.in-Crate.is (ap held_in c.walk_layers.ensures.result_after ∙ crate-layers args.size.n args.samples.now args.size.n (nothing args.work.now))
+    let is : args.numbering ≡ 0 = omega (arith, c.if-numbering-eq0.true) in
+    rw is (ap held_in c.walk_layers.ensures.result_after ∙ crate-layers args.size.n args.samples.now args.size.n (nothing args.work.now))
 
-pub returns-in-Crate-clause-grows_within : goal.returns-in-Crate-clause-grows_within
-returns-in-Crate-clause-grows_within c =
+pub returns-then-numbering-eq0-clause-grows_within : goal.returns-then-numbering-eq0-clause-grows_within
+returns-then-numbering-eq0-clause-grows_within c =
     let args = c.args in
-    rw c.in-Crate.is
+    let is : args.numbering ≡ 0 = omega (arith, c.if-numbering-eq0.true) in
+    rw is
     (span-alike _ _ args.size.n c.walk_layers.result.span (λ k. ap written (crate-layers args.size.n args.samples.now k (nothing args.work.now))) c.walk_layers.ensures.grows_within)
 
-pub returns-in-Joined-clause-counts_value : goal.returns-in-Joined-clause-counts_value
-returns-in-Joined-clause-counts_value c =
+pub returns-else-numbering-eq0-clause-counts_value : goal.returns-else-numbering-eq0-clause-counts_value
+returns-else-numbering-eq0-clause-counts_value c =
     let args = c.args in
-    rw c.in-Joined.is (ap held_in c.walk_layers-in-Joined.ensures.result_after ∙ joined-layers args.size.n args.samples.now args.size.n (nothing args.work.now))
+    let some : 0 < args.numbering = omega (arith, c.if-numbering-eq0.false) in
+    ap held_in c.walk_layers-else-numbering-eq0.ensures.result_after
+    ∙ joined-layers args.size.n args.samples.now args.numbering some args.size.n (nothing args.work.now)
 
-pub returns-in-Joined-clause-grows_within : goal.returns-in-Joined-clause-grows_within
-returns-in-Joined-clause-grows_within c =
+pub returns-else-numbering-eq0-clause-grows_within : goal.returns-else-numbering-eq0-clause-grows_within
+returns-else-numbering-eq0-clause-grows_within c =
     let args = c.args in
-    rw c.in-Joined.is
-    (span-alike _ _ args.size.n c.walk_layers-in-Joined.result.span (λ k. ap written (joined-layers args.size.n args.samples.now k (nothing args.work.now))) c.walk_layers-in-Joined.ensures.grows_within)
+    let some : 0 < args.numbering = omega (arith, c.if-numbering-eq0.false) in
+    span-alike _ _ args.size.n c.walk_layers-else-numbering-eq0.result.span (λ k. ap written (joined-layers args.size.n args.samples.now args.numbering some k (nothing args.work.now)))
+    c.walk_layers-else-numbering-eq0.ensures.grows_within

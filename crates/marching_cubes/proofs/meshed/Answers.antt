@@ -13,14 +13,14 @@ returns-then-vertices-floats c =
     let args = c.args in
     let s = surface_of args.size.n (word_of args.numbering) args.samples.now in
     vertices-left args.size.n (word_of args.numbering) args.samples.now args.work.now args.vertices.now args.indices.now s _ _ c.counted.result _
-    c.count-reach.ensures.made_value.0 c.count-reach.ensures.made_value.1 c.counted.ensures c.count-reach.ensures.work_after c.if-vertices-floats.true
+    (rw c.word-word.ensures at c.count-reach.ensures.made_value.0) (rw c.word-word.ensures at c.count-reach.ensures.made_value.1) c.counted.ensures c.count-reach.ensures.work_after c.if-vertices-floats.true
 
 pub returns-then-indices-counts : goal.returns-then-indices-counts
 returns-then-indices-counts c =
     let args = c.args in
     let s = surface_of args.size.n (word_of args.numbering) args.samples.now in
     indices-left args.size.n (word_of args.numbering) args.samples.now args.work.now args.vertices.now args.indices.now s _ _ c.counted-then-indices-counts.result _
-    c.count-reach.ensures.made_value.0 c.count-reach.ensures.made_value.1 c.counted-then-indices-counts.ensures c.count-reach.ensures.work_after c.if-vertices-floats.false c.if-indices-counts.true
+    (rw c.word-word.ensures at c.count-reach.ensures.made_value.0) (rw c.word-word.ensures at c.count-reach.ensures.made_value.1) c.counted-then-indices-counts.ensures c.count-reach.ensures.work_after c.if-vertices-floats.false c.if-indices-counts.true
 
 -- a grid without a surface
 pub returns-then-counts-eq0 : goal.returns-then-counts-eq0
@@ -29,8 +29,8 @@ returns-then-counts-eq0 c =
     let s = surface_of args.size.n (word_of args.numbering) args.samples.now in
     let none = c.if-counts-eq0.true in
     let fewer = c.count-reach.result.counts.ordered in
-    let made = c.count-reach.ensures.made_value.0 in
-    let written = c.count-reach.ensures.made_value.1 in
+    let made = rw c.word-word.ensures at c.count-reach.ensures.made_value.0 in
+    let written = rw c.word-word.ensures at c.count-reach.ensures.made_value.1 in
     let no-vertices : length s.made ≡ 0 = omega (arith, none, fewer, made) in
     let no-indices : length s.indices ≡ 0 = omega (arith, none, written) in
     done-left args.size.n (word_of args.numbering) args.samples.now args.work.now args.vertices.now args.indices.now s _ _ c.counted-then-counts-eq0.result _ args.vertices.now args.indices.now
@@ -57,10 +57,10 @@ pub returns : goal.returns
 returns c =
     let args = c.args in
     let s = surface_of args.size.n (word_of args.numbering) args.samples.now in
-    let made = c.count-reach.ensures.made_value.0 in
-    let written = c.count-reach.ensures.made_value.1 in
+    let made = rw c.word-word.ensures at c.count-reach.ensures.made_value.0 in
+    let written = rw c.word-word.ensures at c.count-reach.ensures.made_value.1 in
     let floats = c.if-vertices-floats.false in
     let words = c.if-indices-counts.false in
     done-left args.size.n (word_of args.numbering) args.samples.now args.work.now args.vertices.now args.indices.now s _ _ c.counted-2.result _ _ _
-    made written c.counted-2.ensures (cleared-again (work_room args.size.n) args.work.now _ _ c.count-reach.ensures.work_after c.fill.ensures.work_after) c.fill.ensures.vertices_after c.fill.ensures.indices_after
+    made written c.counted-2.ensures (cleared-again (work_room args.size.n) args.work.now _ _ c.count-reach.ensures.work_after c.fill.ensures.work_after) (rw c.word-word.ensures at c.fill.ensures.vertices_after) (rw c.word-word.ensures at c.fill.ensures.indices_after)
     (omega (arith, made, floats)) (omega (arith, written, words))

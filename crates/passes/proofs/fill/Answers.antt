@@ -16,7 +16,7 @@ walk-requires c =
 pub returns : goal.returns
 returns c =
     let pass =
-    filled-pass _ _ _ _ _ _ _ _ _ _ c.work_room.ensures c.requires.accepted.0.work-room (search rules) c.requires.accepted.1 c.requires.grows_within c.requires.samples_in_bounds.0 c.requires.samples_in_bounds.1 (rw c.word.ensures at c.walk.ensures.result_after) c.clear.ensures in
+    filled-pass _ _ _ _ _ _ _ _ _ _ c.work_room.ensures c.requires.accepted.0.work-room (search rules) c.requires.accepted.1 c.requires.grows_within c.requires.samples_in_bounds.0 c.requires.samples_in_bounds.1 c.walk.ensures.result_after c.clear.ensures in
     record {
       work_after = pass.0;
       vertices_after = pass.1;
