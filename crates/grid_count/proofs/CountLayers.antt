@@ -65,3 +65,14 @@ module _ (n : ℕ) (samples : List Float) where
   unfolding layers_done
   joined-layers numbering some k s =
       times-held _ _ (λ z t. ap (λ (u : Hand). held_in u) (layer-beside n samples z 1 t)) k s ∙ joined-words numbering n (inside_of n samples) some k (held_in s)
+
+  -- what a walk that counts comes to, whose last layer is the grid's
+  pub crate-whole : (last : ℕ) (end s : Hand) → end ≡ layers_done (counting 0) (λ n z w. clear_held n (row_parity n (suc z) 0) n w) n samples last s → last ≡ n
+      → held_in end ≡ count_steps 0 n (inside_of n samples) n (held_in s)
+  crate-whole last end s e all =
+      ap held_in e ∙ crate-layers last s ∙ ap (λ (k : ℕ). count_steps 0 n (inside_of n samples) k (held_in s)) all
+
+  pub joined-whole : (numbering : ℕ) → 0 < numbering → (last : ℕ) (end s : Hand) → end ≡ layers_done (counting 1) (λ n z w. w) n samples last s → last ≡ n
+      → held_in end ≡ count_steps numbering n (inside_of n samples) n (held_in s)
+  joined-whole numbering some last end s e all =
+      ap held_in e ∙ joined-layers numbering some last s ∙ ap (λ (k : ℕ). count_steps numbering n (inside_of n samples) k (held_in s)) all

@@ -3,8 +3,9 @@
 
 #![tactic(auto)]
 
-ghost use Rattle.std.specs.Prelude.{◌≡◌};
+ghost use Rattle.std.specs.Prelude.{◌≡◌, not, position};
 ghost use Rattle.std.specs.Bool.{then_some};
+ghost use Rattle.marching_cubes_impl.specs.Sample.{good};
 ghost use Rattle.sample_check.specs.Samples.{any_bad, lowest_bad};
 
 use marching_cubes_impl::edge::is_good;
@@ -21,9 +22,17 @@ pub fn any_bad(samples: &[f32]) -> bool
     bad
 }
 
-// The place of the first sample that is refused, if there is one. The search ends there.
+// The place of the first sample that is not good.
+fn first_bad(samples: &[f32]) -> Option<usize>
+    ensures { result ≡ position (λ v. not (good v)) samples.now }
+{
+    samples.iter().position(|sample| !is_good(*sample))
+}
+
+// The place of the first sample that is refused, if there is one: the search alone, which ends there.
+#[tactic(auto, using(crate::proofs::Samples::position_bad))]
 pub fn lowest_bad(samples: &[f32]) -> Option<usize>
     ensures { result ≡ then_some (any_bad samples.now) (lowest_bad samples.now) }
 {
-    samples.iter().position(|sample| !is_good(*sample))
+    first_bad(samples)
 }
